@@ -1,0 +1,35 @@
+-- The number of a cause, and its layer, whose digit is the number's tens digit.
+use Prim.Native.Nat.{ℕ}
+use Rattle.faults.specs.declared.Cause.{Cause}
+use Rattle.faults.specs.declared.Cause.the-variants.{NotAPacket, LengthMismatch, TooManyClaims, ClaimPastEnd, UnknownValueType, BooleanOverOne, IllFormedText, UncarriableClaim, BufferTooShort, PacketTooLarge}
+use Rattle.faults.specs.declared.Layer.{Layer}
+use Rattle.faults.specs.declared.Layer.the-variants.{Packet, Session, Output}
+
+abbrev pub numberOf : Cause → ℕ
+numberOf NotAPacket = 51
+numberOf LengthMismatch = 52
+numberOf TooManyClaims = 53
+numberOf ClaimPastEnd = 54
+numberOf UnknownValueType = 55
+numberOf BooleanOverOne = 56
+numberOf IllFormedText = 57
+numberOf UncarriableClaim = 64
+numberOf BufferTooShort = 81
+numberOf PacketTooLarge = 82
+
+abbrev pub layerOf : Cause → Layer
+layerOf NotAPacket = Packet
+layerOf LengthMismatch = Packet
+layerOf TooManyClaims = Packet
+layerOf ClaimPastEnd = Packet
+layerOf UnknownValueType = Packet
+layerOf BooleanOverOne = Packet
+layerOf IllFormedText = Packet
+layerOf UncarriableClaim = Session
+layerOf BufferTooShort = Output
+layerOf PacketTooLarge = Output
+
+abbrev pub digitOf : Layer → ℕ
+digitOf Packet = 5
+digitOf Session = 6
+digitOf Output = 8
