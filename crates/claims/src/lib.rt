@@ -7,6 +7,8 @@ mod texts;
 mod values;
 
 pub use records::Claim;
+pub use sources::Listed;
+pub use sources::ListedSource;
 pub use sources::One;
 pub use sources::OneSource;
 pub use sources::Source;

@@ -1,9 +1,9 @@
-// A source of claims, and the source of one claim.
+// A source of claims, the source of one claim, and a slice of records as a source.
 ghost use mathlib.Core.List.{List, [], _∷_};
 ghost use mathlib.Core.Path.{_≡_};
 ghost use Prim.Native.Nat.{_≤_};
 ghost use denote.Ref.{now};
-ghost use lib.ListN.{length};
+ghost use lib.ListN.{length, take};
 ghost use Rattle.std.specs.shelf.Maps.{nth};
 ghost use Rattle.claims.specs.declared.records.Claim.{Claim as Record};
 use super::records::Claim;
@@ -46,5 +46,41 @@ pub impl Source for One as OneSource {
 
     fn claim_at(&self, n: usize) -> Option<Claim> {
         if n == 0 { Some(self.claim) } else { None }
+    }
+}
+
+// The first 512 records of a slice.
+#[derive(Clone, Copy)]
+pub struct Listed<'a> {
+    claims: &'a [Claim],
+    ghost few: { length (claims .now) ≤ 512 },
+}
+
+impl<'a> Listed<'a> {
+    pub fn over(claims: &'a [Claim]) -> Listed<'a>
+        ensures { λ r. ⌜ now (r .claims) ≡ take 512 (now (claims .entry)) ⌝ }
+    {
+        if claims.len() <= 512 {
+            return Listed { claims };
+        }
+        Listed {
+            claims: &claims[0..512],
+        }
+    }
+}
+
+pub impl<'a> Source for Listed<'a> as ListedSource {
+    ghost list = { λ s. now (s .claims) };
+
+    fn count(&self) -> usize {
+        self.claims.len()
+    }
+
+    fn claim_at(&self, n: usize) -> Option<Claim> {
+        if n < self.claims.len() {
+            Some(self.claims[n])
+        } else {
+            None
+        }
     }
 }
