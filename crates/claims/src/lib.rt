@@ -18,4 +18,5 @@ pub use texts::Text;
 pub use texts::claim_text;
 pub use values::Value;
 pub use values::ValueType;
+pub use values::ValueTypePartialEq;
 pub use values::value_type;

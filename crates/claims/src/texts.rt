@@ -1,5 +1,7 @@
 // The text of a claim, held by where it lies.
 ghost use mathlib.Core.Path.{_≡_};
+ghost use Prim.Native.Nat.{_*_, _<_};
+ghost use lib.ListN.{length};
 ghost use Rattle.std.specs.Options.{mapped, Cases as BySome};
 ghost use Rattle.claims.specs.Texts.{sourceOf, startOf, partOf};
 
@@ -38,6 +40,7 @@ fn start(text: Text) -> usize
 // The text as a part of the rule text or of the packet, or none where it lies outside.
 pub fn claim_text<'a>(text: Text, rules: &'a [u8], packet: &'a [u8]) -> Option<Part<'a>>
     ensures bytes { λ r. ⌜ mapped (λ p. now (p .bytes)) r ≡ partOf (now (rules .entry)) (now (packet .entry)) text ⌝ }
+    ensures size { λ r. ⌜ BySome r (Unit {0}) (λ p. (length (now (p .bytes)) ≡ 2 * text .len) × (text .len < 65536)) ⌝ }
     ensures place { λ r. ⌜ BySome r (Unit {0}) (λ p. (p .origin ≡ text .origin) × (p .place ≡ text .place)) ⌝ }
 {
     let whole = match text.origin {

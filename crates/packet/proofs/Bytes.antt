@@ -88,7 +88,7 @@ bytes-units (x ∷ y ∷ bs) n h e =
     ∙ ap (λ v. x ∷ v ∷ unitBytes (units bs)) r
     ∙ ap (λ t. x ∷ y ∷ t) (bytes-units bs (n - 1) (h .1 .1) (omega arith))
 
-units-wide : (bs : List ℕ) → Bytes bs → All (λ u. u < 65536) (units bs)
+pub units-wide : (bs : List ℕ) → Bytes bs → All (λ u. u < 65536) (units bs)
 units-wide [] h = tt
 units-wide (x ∷ []) h = tt
 units-wide (x ∷ y ∷ bs) h = (omega (arith, h .0, h .1 .0), units-wide bs (h .1 .1))
