@@ -1,0 +1,3 @@
+pub mod Terminals
+pub mod Words
+pub mod Places
