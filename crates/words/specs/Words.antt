@@ -4,6 +4,7 @@ use mathlib.Core.List.{List, [], _∷_}
 use Prim.Native.Nat.{ℕ, zero, suc, pred, _+_}
 use lib.Dec.{leb, eqb}
 use lib.ListN.{length, take, drop}
+use Rattle.std.specs.Options.{valueOr}
 use Rattle.std.specs.declared.option.Option.{Option}
 use Rattle.std.specs.declared.option.Option.the-variants.{Some, None}
 use Rattle.std.specs.shelf.Lists.{leading}
@@ -14,7 +15,7 @@ use Rattle.words.specs.declared.terminals.Slip.the-variants.{BeginsNone, NotCl
 use Rattle.words.specs.declared.terminals.Terminal.{Terminal}
 use Rattle.words.specs.declared.terminals.Terminal.the-variants.{Identifier, Literal}
 
--- a word: what it is, the place of its first unit, and the text of a name or of what is quoted
+-- a word: what it is, the place of its first unit, and the text of an identifier or of what is quoted
 pub record Word : Type 0 where
   pub kind : Kind
   pub at : ℕ
@@ -44,9 +45,9 @@ begins (p ∷ ps) [] = false
 begins (p ∷ ps) (u ∷ us) = eqb p u && begins ps us
 
 -- the terminal of a table that the units spell, in any case
-abbrev pub named : List (List ℕ × Terminal) → List ℕ → Terminal → Terminal
-named [] us other = other
-named (n ∷ ns) us other = cond (sameUnits us (n .0)) (n .1) (named ns us other)
+abbrev pub spelledBy : List (List ℕ × Terminal) → List ℕ → Option Terminal
+spelledBy [] us = None
+spelledBy (n ∷ ns) us = cond (sameUnits us (n .0)) (Some (n .1)) (spelledBy ns us)
 
 -- the word at the front of units: what it is, how many units it takes, and its text
 pub record Spelled : Type 0 where
@@ -62,16 +63,23 @@ abbrev pub symbol : List (List ℕ × Terminal) → List ℕ → Spelled
 symbol [] us = noWord BeginsNone us
 symbol (s ∷ ss) us = cond (begins (s .0) us) (record { kind = terminal (s .1); long = length (s .0); text = [] }) (symbol ss us)
 
--- the longest run of name units, a keyword or an identifier of at most 31
+-- a name is a keyword, or an identifier with its text
+abbrev pub nameWord : List ℕ → Option Terminal → Spelled
+nameWord run None = record { kind = terminal Identifier; long = length run; text = run }
+nameWord run (Some t) = record { kind = terminal t; long = length run; text = [] }
+
+-- the longest run of name units, at most 31
 abbrev pub name : List ℕ → List ℕ → Spelled
-name us run = cond (leb (length run) 31) (record { kind = terminal (named keywords run Identifier); long = length run; text = run }) (noWord TooLong us)
+name us run = cond (leb (length run) 31) (nameWord run (spelledBy keywords run)) (noWord TooLong us)
+
+-- what is quoted is a value type or a literal, and has its text
+abbrev pub quotedWord : List ℕ → Option Terminal → Spelled
+quotedWord run o = record { kind = terminal (valueOr o Literal); long = length run + 2; text = run }
 
 -- a string of at most 255 units between its quotes, closed on its line
 abbrev pub string : List ℕ → List ℕ → List ℕ → Spelled
 string us run rest =
-    cond (begins (34 ∷ []) rest)
-    (cond (leb (length run) 255) (record { kind = terminal (named valueTypes run Literal); long = length run + 2; text = run }) (noWord TooLong us))
-    (noWord NotClosed us)
+    cond (begins (34 ∷ []) rest) (cond (leb (length run) 255) (quotedWord run (spelledBy valueTypes run)) (noWord TooLong us)) (noWord NotClosed us)
 
 abbrev pub front : (ℕ → Bool) → List ℕ → List ℕ
 front p us = take (leading p us) us
