@@ -1,0 +1,33 @@
+use mathlib.Core.Path.{sym, ap}
+use Rattle.display.specs.Words.{wordsOf}
+use Rattle.display.proofs.messages.words.Needs as need
+
+pub returns-in-NotAPacket : need.returns-in-NotAPacket
+returns-in-NotAPacket c = sym (ap wordsOf (c .in-NotAPacket .is))
+
+pub returns-in-LengthMismatch : need.returns-in-LengthMismatch
+returns-in-LengthMismatch c = sym (ap wordsOf (c .in-LengthMismatch .is))
+
+pub returns-in-TooManyClaims : need.returns-in-TooManyClaims
+returns-in-TooManyClaims c = sym (ap wordsOf (c .in-TooManyClaims .is))
+
+pub returns-in-ClaimPastEnd : need.returns-in-ClaimPastEnd
+returns-in-ClaimPastEnd c = sym (ap wordsOf (c .in-ClaimPastEnd .is))
+
+pub returns-in-UnknownValueType : need.returns-in-UnknownValueType
+returns-in-UnknownValueType c = sym (ap wordsOf (c .in-UnknownValueType .is))
+
+pub returns-in-BooleanOverOne : need.returns-in-BooleanOverOne
+returns-in-BooleanOverOne c = sym (ap wordsOf (c .in-BooleanOverOne .is))
+
+pub returns-in-IllFormedText : need.returns-in-IllFormedText
+returns-in-IllFormedText c = sym (ap wordsOf (c .in-IllFormedText .is))
+
+pub returns-in-UncarriableClaim : need.returns-in-UncarriableClaim
+returns-in-UncarriableClaim c = sym (ap wordsOf (c .in-UncarriableClaim .is))
+
+pub returns-in-BufferTooShort : need.returns-in-BufferTooShort
+returns-in-BufferTooShort c = sym (ap wordsOf (c .in-BufferTooShort .is))
+
+pub returns-in-PacketTooLarge : need.returns-in-PacketTooLarge
+returns-in-PacketTooLarge c = sym (ap wordsOf (c .in-PacketTooLarge .is))
