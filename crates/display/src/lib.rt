@@ -4,6 +4,8 @@
 mod letters;
 mod messages;
 mod tables;
+#[cfg(test)]
+mod tests;
 mod texts;
 
 pub use letters::hex_letter;

@@ -3,9 +3,10 @@ use mathlib.Core.List.{List}
 use Prim.Native.Nat.{ℕ}
 use lib.Chars.{codes}
 use Rattle.listing.specs.declared.mistakes.Mistake.{Mistake}
-use Rattle.listing.specs.declared.mistakes.Mistake.the-variants.{MissingValueType, MissingValue, UnknownValueType, NotANumber, NumberOutOfRange, NotABoolean, TextNotClosed, BadEscape, TextTooLong, IllFormedText, NoBlankAfterField, MoreAfterValue, TooManyClaims, TextsTooLarge}
+use Rattle.listing.specs.declared.mistakes.Mistake.the-variants.{NotUtf8, MissingValueType, MissingValue, UnknownValueType, NotANumber, NumberOutOfRange, NotABoolean, TextNotClosed, BadEscape, TextTooLong, IllFormedText, NoBlankAfterField, MoreAfterValue, TooManyClaims, TextsTooLarge}
 
 abbrev pub wordsOf : Mistake → List ℕ
+wordsOf NotUtf8 = codes "not UTF-8 text"
 wordsOf MissingValueType = codes "a value type and a value are missing"
 wordsOf MissingValue = codes "a value is missing"
 wordsOf UnknownValueType = codes "the value type is none of uint64, int64, string and boolean"

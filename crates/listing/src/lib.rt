@@ -6,6 +6,8 @@ mod letters;
 mod lists;
 mod mistakes;
 mod numbers;
+#[cfg(test)]
+mod tests;
 
 pub use letters::is_blank;
 pub use lists::ClaimsList;

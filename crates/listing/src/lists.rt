@@ -175,8 +175,8 @@ fn on_line(stop: Stop, line: usize) -> ListError {
     }
 }
 
-// The claims of a list, in the order of their lines.
-pub fn read(heap: Global, list: &str) -> Result<ClaimsList, ListError>
+// The claims of a text, in the order of its lines.
+fn read_text(heap: Global, list: &str) -> Result<ClaimsList, ListError>
     ensures few { λ r. ⌜ made r (λ l. vec-len (l .claims) ≤ 256) ⌝ }
     ensures whole { λ r. ⌜ made r (λ l. Whole (vec-items (l .text))) ⌝ }
     ensures inside { λ r. ⌜ made r (λ l. AllInside (vec-len (l .text)) (vec-items (l .claims))) ⌝ }
@@ -189,4 +189,35 @@ pub fn read(heap: Global, list: &str) -> Result<ClaimsList, ListError>
         }
     }
     Ok(ClaimsList { text, claims })
+}
+
+// Where the bytes stop being UTF-8.
+fn not_text(list: &[u8], at: usize) -> ListError {
+    let mut line: usize = 1;
+    let mut column: usize = 1;
+    for b in list.iter().take(at) {
+        if *b == b'\n' {
+            line = line.saturating_add(1);
+            column = 1;
+        } else if *b < 0x80 || *b >= 0xC0 {
+            column = column.saturating_add(1);
+        }
+    }
+    ListError::Line(Misplaced {
+        mistake: Mistake::NotUtf8,
+        line,
+        column,
+    })
+}
+
+// The claims of a list, in the order of its lines; a byte order mark in front is no part of it.
+pub fn read(heap: Global, list: &[u8]) -> Result<ClaimsList, ListError>
+    ensures few { λ r. ⌜ made r (λ l. vec-len (l .claims) ≤ 256) ⌝ }
+    ensures whole { λ r. ⌜ made r (λ l. Whole (vec-items (l .text))) ⌝ }
+    ensures inside { λ r. ⌜ made r (λ l. AllInside (vec-len (l .text)) (vec-items (l .claims))) ⌝ }
+{
+    match std::str::from_utf8(list) {
+        Ok(text) => read_text(heap, text.strip_prefix('\u{FEFF}').unwrap_or(text)),
+        Err(error) => Err(not_text(list, error.valid_up_to())),
+    }
 }

@@ -6,6 +6,7 @@ use std::alloc::Refused;
 
 #[derive(Clone, Copy, PartialEq, Eq, Debug)]
 pub enum Mistake {
+    NotUtf8,
     MissingValueType,
     MissingValue,
     UnknownValueType,
@@ -61,6 +62,7 @@ impl Mistake {
         ensures { λ r. ⌜ now r ≡ wordsOf self ⌝ }
     {
         match self {
+            Mistake::NotUtf8 => "not UTF-8 text",
             Mistake::MissingValueType => "a value type and a value are missing",
             Mistake::MissingValue => "a value is missing",
             Mistake::UnknownValueType =>

@@ -49,7 +49,7 @@ fn show(rt: &LibcRuntime, packet: &str) -> Result<(), Failure> {
 fn pack_file(rt: &LibcRuntime, list: &str, packet: &str) -> Result<(), Failure> {
     let heap = rt.alloc();
     let text = read_list(rt, list)?;
-    match pack(heap, text.as_str()) {
+    match pack(heap, text.as_slice()) {
         Ok(bytes) => {
             write_packet(rt, packet, bytes.as_slice())?;
             show(rt, packet)
@@ -60,8 +60,16 @@ fn pack_file(rt: &LibcRuntime, list: &str, packet: &str) -> Result<(), Failure> 
     }
 }
 
-fn unknown(rt: &LibcRuntime, word: &str) -> Result<(), Failure> {
-    Err(Failure::Usage(format!(rt.alloc(), "mujelto: no command '{word}' with these words")?))
+// The words fit no command: is it the first, or those after it?
+fn misused(rt: &LibcRuntime, command: &str) -> Result<(), Failure> {
+    let line = match command {
+        "pack" | "show" | "help" => format!(
+            rt.alloc(),
+            "mujelto: wrong number of words after '{command}'"
+        )?,
+        _ => format!(rt.alloc(), "mujelto: unknown command '{command}'")?,
+    };
+    Err(Failure::Usage(line))
 }
 
 pub fn run(rt: &LibcRuntime, words: &[String]) -> Result<(), Failure> {
@@ -74,6 +82,6 @@ pub fn run(rt: &LibcRuntime, words: &[String]) -> Result<(), Failure> {
             list.as_str(),
             packet.as_str(),
         ),
-        [command, ..] => unknown(rt, command.as_str()),
+        [command, ..] => misused(rt, command.as_str()),
     }
 }

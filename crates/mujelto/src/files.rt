@@ -30,23 +30,21 @@ pub fn read_packet(rt: &LibcRuntime, path: &str) -> Result<Vec<u8>, Failure> {
     }
 }
 
-// A claims list: UTF-8, of at most 1 MiB.
-pub fn read_list(rt: &LibcRuntime, path: &str) -> Result<String, Failure> {
-    let bytes = match front(rt, path, LIST_LIMIT + 1) {
-        Ok(bytes) => bytes,
-        Err(error) => return Err(named(rt, path, error)),
-    };
-    if bytes.len() as u64 > LIST_LIMIT {
-        return Err(Failure::Line(
-            format!(
-                rt.alloc(),
-                "{path}: a claims list has at most {LIST_LIMIT} bytes"
-            )?,
-        ));
-    }
-    match String::from_utf8(bytes) {
-        Ok(text) => Ok(text),
-        Err(_) => Err(Failure::Line(format!(rt.alloc(), "{path}: not UTF-8 text")?)),
+// A claims list of at most 1 MiB.
+pub fn read_list(rt: &LibcRuntime, path: &str) -> Result<Vec<u8>, Failure> {
+    match front(rt, path, LIST_LIMIT + 1) {
+        Ok(bytes) => {
+            if bytes.len() as u64 > LIST_LIMIT {
+                return Err(Failure::Line(
+                    format!(
+                        rt.alloc(),
+                        "{path}: a claims list has at most {LIST_LIMIT} bytes"
+                    )?,
+                ));
+            }
+            Ok(bytes)
+        }
+        Err(error) => Err(named(rt, path, error)),
     }
 }
 

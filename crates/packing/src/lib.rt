@@ -3,6 +3,8 @@
 // An accepted packet is written again, and compared with itself.
 mod packs;
 mod rewrites;
+#[cfg(test)]
+mod tests;
 
 pub use packs::PackError;
 pub use packs::pack;

@@ -62,7 +62,7 @@ fn packet_of(heap: Global, list: &ClaimsList, out: &mut [u8]) -> Result<Vec<u8>,
 }
 
 // The packet of a claims list: bytes that a check accepts.
-pub fn pack(heap: Global, list: &str) -> Result<Vec<u8>, PackError>
+pub fn pack(heap: Global, list: &[u8]) -> Result<Vec<u8>, PackError>
     ensures { λ r. ⌜ made r (λ v. isOk (judge (vec-items v)) ≡ true) ⌝ }
 {
     let list = match read(heap, list) {

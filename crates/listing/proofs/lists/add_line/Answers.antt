@@ -10,6 +10,6 @@ returns c =
     let n = c .len .ensures in
     record {
       whole = e .whole;
-      inside = all-more (vec-len (c .args .text .now)) (vec-len (c .claim-at .last .text)) (vec-items (c .args .claims .now)) _ (c .in-Continue-claim .claim) (e .longer) (c .pre .inside) (e .inside) (p .items);
+      inside = all-more (vec-len (c .args .text .now)) (vec-len (c .claim-at .last .text)) (vec-items (c .args .claims .now)) (vec-items (c .push .last .self)) (c .in-Continue-claim .claim) (e .longer) (c .pre .inside) (e .inside) (p .items);
       few = omega arith;
     }

@@ -17,8 +17,8 @@ returns c =
     let p : length old ≡ 2 * (c .len-place .result / 2) = omega arith in
     record {
       grown = e .items;
-      whole = whole-append old (c .args .more .now) _ (c .pre .whole) (c .pre .more) (e .items);
+      whole = whole-append old (c .args .more .now) (vec-items (c .extend-from-slice .last .self)) (c .pre .whole) (c .pre .more) (e .items);
       longer = omega arith;
       inside = (refl, omega arith);
-      stands = λ packet. stands old (c .args .more .now) _ packet (c .len-place .result / 2) (length (c .args .more .now) / 2) p b (e .items);
+      stands = λ packet. stands old (c .args .more .now) (vec-items (c .extend-from-slice .last .self)) packet (c .len-place .result / 2) (length (c .args .more .now) / 2) p b (e .items);
     }

@@ -43,3 +43,6 @@ returns-in-TooManyClaims c = sym (ap wordsOf (c .in-TooManyClaims .is))
 
 pub returns-in-TextsTooLarge : need.returns-in-TextsTooLarge
 returns-in-TextsTooLarge c = sym (ap wordsOf (c .in-TextsTooLarge .is))
+
+pub returns-in-NotUtf8 : need.returns-in-NotUtf8
+returns-in-NotUtf8 c = sym (ap wordsOf (c .in-NotUtf8 .is))
