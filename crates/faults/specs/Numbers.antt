@@ -1,7 +1,7 @@
 -- The number of a cause, and its layer, whose digit is the number's tens digit.
 use Prim.Native.Nat.{ℕ}
 use Rattle.faults.specs.declared.Cause.{Cause}
-use Rattle.faults.specs.declared.Cause.the-variants.{UnknownCharacter, StringNotClosed, WordTooLong, UnexpectedWord, OverLimit, NotAPacket, LengthMismatch, TooManyClaims, ClaimPastEnd, UnknownValueType, BooleanOverOne, IllFormedText, UncarriableClaim, BufferTooShort, PacketTooLarge}
+use Rattle.faults.specs.declared.Cause.the-variants.{UnknownCharacter, StringNotClosed, WordTooLong, UnexpectedWord, OverLimit, MalformedPattern, PatternOverLimit, NotAPacket, LengthMismatch, TooManyClaims, ClaimPastEnd, UnknownValueType, BooleanOverOne, IllFormedText, UncarriableClaim, BufferTooShort, PacketTooLarge}
 use Rattle.faults.specs.declared.Layer.{Layer}
 use Rattle.faults.specs.declared.Layer.the-variants.{Words, Grammar, Checks, Packet, Session, Output}
 
@@ -11,6 +11,8 @@ numberOf StringNotClosed = 22
 numberOf WordTooLong = 23
 numberOf UnexpectedWord = 31
 numberOf OverLimit = 41
+numberOf MalformedPattern = 44
+numberOf PatternOverLimit = 45
 numberOf NotAPacket = 51
 numberOf LengthMismatch = 52
 numberOf TooManyClaims = 53
@@ -28,6 +30,8 @@ layerOf StringNotClosed = Words
 layerOf WordTooLong = Words
 layerOf UnexpectedWord = Grammar
 layerOf OverLimit = Checks
+layerOf MalformedPattern = Checks
+layerOf PatternOverLimit = Checks
 layerOf NotAPacket = Packet
 layerOf LengthMismatch = Packet
 layerOf TooManyClaims = Packet
