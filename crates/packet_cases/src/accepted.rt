@@ -76,3 +76,8 @@ fn texts_at_their_places() -> Result<(), Fail> {
     check_eq(word.bytes[1], 115)?;
     check_eq(word.place, 7)
 }
+
+#[test]
+fn a_record_is_small() -> Result<(), Fail> {
+    check_eq(std::mem::size_of::<Claim>(), 32)
+}
