@@ -17,6 +17,7 @@ use Rattle.parser.specs.declared.tree.Oper.{Oper}
 use Rattle.parser.specs.declared.tree.Oper.the-variants as oper
 use Rattle.parser.specs.declared.tree.Piece.{Piece}
 use Rattle.parser.specs.declared.tree.Rule.{Rule}
+use Rattle.parser.specs.declared.tree.Rules.{Rules}
 use Rattle.parser.specs.declared.tree.Selection.{Selection}
 use Rattle.parser.specs.declared.tree.Selections.{Selections}
 
@@ -67,3 +68,6 @@ bodyOf us b = (selectionsOf us (b .0), actionOf us (b .1))
 
 abbrev pub ruleOf : List ℕ → Rule → T.Rule
 ruleOf us r = record { at = r .at; selections = selectionsOf us (r .selections); action = actionOf us (r .action) }
+
+abbrev pub rulesOf : List ℕ → Rules → List T.Rule
+rulesOf us rs = map (ruleOf us) (take (rs .len) (rs .items))

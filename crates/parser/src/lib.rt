@@ -2,9 +2,11 @@
 // A rule is a plain value of places in the text.
 mod ahead;
 mod parser;
+mod parses;
 mod tree;
 
 pub use parser::Parser;
+pub use parses::parse;
 pub use tree::Action;
 pub use tree::Cond;
 pub use tree::Conds;
@@ -12,6 +14,7 @@ pub use tree::Expr;
 pub use tree::Oper;
 pub use tree::Piece;
 pub use tree::Rule;
+pub use tree::Rules;
 pub use tree::Selection;
 pub use tree::Selections;
 pub use tree::Stop;

@@ -2,7 +2,7 @@
 ghost use mathlib.Core.Path.{_≡_};
 ghost use mathlib.Core.List.{List, [], _∷_, _++_};
 ghost use Prim.Native.Nat.{ℕ, _+_, _<_};
-ghost use Rattle.parser.specs.Shown.{condsOf, condOf, selectionsOf, selectionOf};
+ghost use Rattle.parser.specs.Shown.{condsOf, condOf, selectionsOf, selectionOf, rulesOf, ruleOf};
 use words::Terminal;
 
 // A word of the text: the place of its first unit, and where the units of a name or of what is quoted lie.
@@ -72,6 +72,13 @@ pub struct Rule {
     pub action: Action,
 }
 
+// At most 32 rules.
+#[derive(Clone, Copy)]
+pub struct Rules {
+    pub items: [Rule; 32],
+    pub len: usize,
+}
+
 // Why reading stopped: at a word without use, or at an item past its limit.
 #[derive(Clone, Copy)]
 pub enum Stop {
@@ -79,18 +86,21 @@ pub enum Stop {
     Past,
 }
 
-pub fn no_conds() -> Conds
-    ensures items { λ r. ⌜ ((us : List ℕ) → condsOf us r ≡ []) ⌝ }
-    ensures len { λ r. ⌜ r .len ≡ 0 ⌝ }
-{
-    let none = Piece {
+fn no_piece() -> Piece {
+    Piece {
         terminal: Terminal::Literal,
         at: 0,
         from: 0,
         len: 0,
-    };
+    }
+}
+
+pub fn no_conds() -> Conds
+    ensures items { λ r. ⌜ ((us : List ℕ) → condsOf us r ≡ []) ⌝ }
+    ensures len { λ r. ⌜ r .len ≡ 0 ⌝ }
+{
     Conds {
-        items: [Cond::Type(Oper::Equal, none); 4],
+        items: [Cond::Type(Oper::Equal, no_piece()); 4],
         len: 0,
     }
 }
@@ -129,4 +139,29 @@ pub fn with_selection(selections: Selections, s: Selection) -> Selections
     let n = selections.len;
     items[n] = s;
     Selections { items, len: n + 1 }
+}
+
+pub fn no_rules() -> Rules
+    ensures items { λ r. ⌜ ((us : List ℕ) → rulesOf us r ≡ []) ⌝ }
+    ensures len { λ r. ⌜ r .len ≡ 0 ⌝ }
+{
+    let none = Rule {
+        at: 0,
+        selections: no_selections(),
+        action: Action::Copy(no_piece()),
+    };
+    Rules {
+        items: [none; 32],
+        len: 0,
+    }
+}
+
+pub fn push_rule(rules: &mut Rules, rule: Rule)
+    requires { ⌜ now rules .len < 32 ⌝ }
+    ensures items { λ _. ⌜ ((us : List ℕ) → rulesOf us (now (rules .exit)) ≡ rulesOf us (now (rules .entry)) ++ (ruleOf us rule ∷ [])) ⌝ }
+    ensures len { λ _. ⌜ now (rules .exit) .len ≡ now (rules .entry) .len + 1 ⌝ }
+{
+    let n = rules.len;
+    rules.items[n] = rule;
+    rules.len = n + 1;
 }

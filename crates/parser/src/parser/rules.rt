@@ -8,13 +8,16 @@ ghost use Rattle.grammar.specs.Whole.{faultFrom, causeOf};
 ghost use Rattle.units.specs.Units.{units};
 ghost use Rattle.parser.specs.Ahead.{short};
 ghost use Rattle.parser.specs.Reading.{shown, rest, Reading, textOf, faultOf, isNone};
-ghost use Rattle.parser.specs.Shown.{bodyOf, ruleOf};
+ghost use Rattle.parser.specs.Shown.{bodyOf, ruleOf, rulesOf};
 use super::super::ahead::Ahead;
 use super::super::ahead::short_text;
 use super::super::tree::Action;
 use super::super::tree::Rule;
+use super::super::tree::Rules;
 use super::super::tree::Selections;
 use super::super::tree::Stop;
+use super::super::tree::no_rules;
+use super::super::tree::push_rule;
 use super::Parser;
 use faults::Cause;
 use faults::Fault;
@@ -78,6 +81,26 @@ impl<'a> Parser<'a> {
         ensures { λ r. ⌜ r ≡ next G.rulesBegin (rest (now (self .entry))) ⌝ }
     {
         self.sees_either(Terminal::OpenSquare, Terminal::Identifier) || self.sees(Terminal::Imply)
+    }
+
+    // The rules up to the first word that begins none.
+    pub fn rules(&mut self) -> Result<Rules, Stop>
+        ensures reads { λ r. ⌜ Reading G.Rule-set (rest (now (self .entry))) (shown (rulesOf (textOf (now (self .entry)))) r (rest (now (self .exit)))) ⌝ }
+        ensures text { λ _. ⌜ textOf (now (self .exit)) ≡ textOf (now (self .entry)) ⌝ }
+    {
+        let mut all = no_rules();
+        for i in 0..32usize {
+            if !self.begins_rule() {
+                return Ok(all);
+            }
+            let r = self.rule()?;
+            push_rule(&mut all, r);
+        }
+        if self.begins_rule() {
+            Err(Stop::Past)
+        } else {
+            Ok(all)
+        }
     }
 
     pub fn at_end(&self) -> bool
