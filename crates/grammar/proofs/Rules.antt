@@ -33,11 +33,9 @@ module _ {A : Type 0} (p : Reads A) where
     unplaced : (h : Got A) → p ws ≡ h → with-place ws h ≡ g → Unplaced ws g
 
   placed-of : (ws : List Word) (g : Got (ℕ × A)) → placed p ws ≡ g → Unplaced ws g
-  unfolding placed
   placed-of ws g e = unplaced (p ws) refl e
 
   on-placed : (ws : List Word) (g : Got A) → p ws ≡ g → placed p ws ≡ with-place ws g
-  unfolding placed
   on-placed ws g e = ap (with-place ws) e
 
 first-place-of : {ks : List Terminal} (f rest : List Word) → First ks f → firstPlace (f ++ rest) ≡ firstPlace f

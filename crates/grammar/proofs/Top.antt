@@ -19,7 +19,7 @@ use Rattle.grammar.specs.Parse as P
 use Rattle.grammar.specs.Readers.{Got, got, useless, past, firstPlace}
 use Rattle.grammar.specs.Whole.{faultFrom, causeOf, whole, parse, Parsed, rules, fault}
 use Rattle.grammar.specs.Grammar as G
-use Rattle.grammar.specs.Exact.{Begins, Rule-past, Within, No-use, Stops, Told, at-the-end, at-a-word, at-no-terminal, at-open-string, at-long-word, Passes, Accepts-exactly, One-tree, Useless-exactly, Past-exactly, Exact}
+use Rattle.grammar.specs.Exact.{Begins, Rule-past, Within, No-use, Stops, Told, at-the-end, at-a-word, at-no-terminal, at-open-string, at-long-word, Passes, Judged, One-tree, Exact}
 use Rattle.grammar.proofs.Steps.{first}
 use Rattle.grammar.proofs.Good.{kept, free, Inside, Lost}
 use Rattle.grammar.proofs.Limited.{Lim}
@@ -203,6 +203,9 @@ one-tree ws rs qs d h c =
     (λ i. let g = ap P.Rule-set (i .cut) ∙ rule-set .passes (i .front) (i .w) (i .back) (i .here) in let x : _≡_ {A = ℕ} 0 1 = cc in absurd (omega arith))
     (rule-set .fits ws qs (record { says = c; fits = tt }))
 
-pub exact : Exact
+pub judged : (us : List ℕ) → Judged us (parse us)
 unfolding parse
-exact = ((λ us rs. accepts (length us) (words us) rs), one-tree, (λ us f other. stopped (length us) (words us) f other), (λ us p. passed (length us) (words us) p))
+judged us = record { accepts = accepts (length us) (words us); stops = stopped (length us) (words us); passes = passed (length us) (words us) }
+
+pub exact : Exact
+exact = (judged, one-tree)

@@ -15,7 +15,7 @@ use Rattle.words.specs.declared.terminals.Terminal.{Terminal}
 use Rattle.words.specs.declared.terminals.Terminal.the-variants.{Comma, And, OpenSquare, Colon, Identifier}
 use Rattle.grammar.specs.Tree as Tree
 use Rattle.grammar.specs.Tree.{Selection, Rule}
-use Rattle.grammar.specs.Whole.{parse, rules, fault}
+use Rattle.grammar.specs.Whole.{Parsed, parse, rules, fault}
 use Rattle.grammar.specs.Grammar.{Is, Cond, Sel-condition, A-rule, Rule-set}
 
 -- some sentence of R begins with these words
@@ -89,20 +89,26 @@ pub record Passes (ws front : List Word) (w : Word) (rest : List Word) : Type 0 
   pub cut : ws ≡ front ++ (w ∷ rest)
   pub item : Rule-past 32 front w
 
--- ── the statements ──
-abbrev pub Accepts-exactly : Type 0
-Accepts-exactly = (us : List ℕ) (rs : List Rule) → (parse us ≡ rules rs) ↔ (Rule-set (words us) rs × Within rs)
+-- ── the statements, of a text and what is told of it ──
+abbrev pub Accepts-exactly : List ℕ → Parsed → Type 0
+Accepts-exactly us p = (rs : List Rule) → (p ≡ rules rs) ↔ (Rule-set (words us) rs × Within rs)
 
--- and what it says is all that its words say
+-- a fault other than OverLimit is told of the first word without use, or of the text's end
+abbrev pub Useless-exactly : List ℕ → Parsed → Type 0
+Useless-exactly us p =
+    (f : Fault) → (f .cause ≡ OverLimit → ⊥) → (p ≡ fault f) ↔ ((front : List Word) × (rest : List Word) × Stops (words us) front rest × Told (length us) rest f)
+
+abbrev pub Past-exactly : List ℕ → Parsed → Type 0
+Past-exactly us p = (n : ℕ) → (p ≡ fault (faultAt OverLimit n)) ↔ ((front : List Word) × (w : Word) × (rest : List Word) × Passes (words us) front w rest × (n ≡ w .at))
+
+pub record Judged (us : List ℕ) (p : Parsed) : Type 0 where
+  pub accepts : Accepts-exactly us p
+  pub stops : Useless-exactly us p
+  pub passes : Past-exactly us p
+
+-- words say no more than one list of rules
 abbrev pub One-tree : Type 0
 One-tree = (ws : List Word) (rs qs : List Rule) → Rule-set ws rs → Within rs → Rule-set ws qs → rs ≡ qs
 
--- a fault other than OverLimit is told of the first word without use, or of the text's end
-abbrev pub Useless-exactly : Type 0
-Useless-exactly = (us : List ℕ) (f : Fault) → (f .cause ≡ OverLimit → ⊥) → (parse us ≡ fault f) ↔ ((front : List Word) × (rest : List Word) × Stops (words us) front rest × Told (length us) rest f)
-
-abbrev pub Past-exactly : Type 0
-Past-exactly = (us : List ℕ) (p : ℕ) → (parse us ≡ fault (faultAt OverLimit p)) ↔ ((front : List Word) × (w : Word) × (rest : List Word) × Passes (words us) front w rest × (p ≡ w .at))
-
 abbrev pub Exact : Type 0
-Exact = Accepts-exactly × One-tree × Useless-exactly × Past-exactly
+Exact = ((us : List ℕ) → Judged us (parse us)) × One-tree

@@ -189,12 +189,16 @@ Claim-new =
 abbrev pub Claim-copy : Reads Action
 Claim-copy = t KeyClaim >> t Assign >> t Identifier >>= (λ i. return (copy i))
 
+-- Issue-params = Claim-copy / Claim-new
+abbrev pub Issue-params : Reads Action
+Issue-params = (KeyClaim ∷ []) starts Claim-copy else Claim-new
+
 -- Rule-action = ISSUE O-BRACKET Issue-params C-BRACKET
 abbrev pub Rule-action : Reads Action
 Rule-action = do
   t KeyIssue
   t OpenRound
-  x ← (KeyClaim ∷ []) starts Claim-copy else Claim-new
+  x ← Issue-params
   t CloseRound
   return x
 

@@ -63,5 +63,5 @@ many k ks p (suc room) = do
   return (x ∷ xs)
 
 -- with the place of its first word
-unfoldable pub placed : {A : Type 0} → Reads A → Reads (ℕ × A)
+abbrev pub placed : {A : Type 0} → Reads A → Reads (ℕ × A)
 placed p ws = elim (p ws) [ got x rest ↦ got (firstPlace ws, x) rest | useless rest ↦ useless rest | past rest ↦ past rest ]

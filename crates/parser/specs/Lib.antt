@@ -1,0 +1,4 @@
+pub mod Shown
+pub mod Ahead
+pub mod Reading
+pub mod Parsed
