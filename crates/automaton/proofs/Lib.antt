@@ -1,0 +1,4 @@
+pub mod Sets
+pub mod Holds
+pub mod Correct
+pub mod Turns

@@ -1,0 +1,3 @@
+pub mod Language
+pub mod Places
+pub mod Run
