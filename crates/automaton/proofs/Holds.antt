@@ -58,16 +58,16 @@ pub has-if : (b : Bool) (s p : ℕ) → Has (cond b s 0) p → (b ≡ true) × H
 has-if true s p h = (refl, h)
 has-if false s p h = absurd (has-none p h)
 
-linked-left : (a b : List Link) (p q : ℕ) → Linked a p q → Linked (a ++ b) p q
+pub linked-left : (a b : List Link) (p q : ℕ) → Linked a p q → Linked (a ++ b) p q
 linked-left [] b p q h = absurd h
 linked-left (l ∷ a) b p q (inl h) = inl h
 linked-left (l ∷ a) b p q (inr h) = inr (linked-left a b p q h)
 
-linked-right : (a b : List Link) (p q : ℕ) → Linked b p q → Linked (a ++ b) p q
+pub linked-right : (a b : List Link) (p q : ℕ) → Linked b p q → Linked (a ++ b) p q
 linked-right [] b p q h = h
 linked-right (l ∷ a) b p q h = inr (linked-right a b p q h)
 
-linked-split : (a b : List Link) (p q : ℕ) → Linked (a ++ b) p q → Linked a p q ⊎ Linked b p q
+pub linked-split : (a b : List Link) (p q : ℕ) → Linked (a ++ b) p q → Linked a p q ⊎ Linked b p q
 linked-split [] b p q h = inr h
 linked-split (l ∷ a) b p q (inl h) = inl (inl h)
 linked-split (l ∷ a) b p q (inr h) = elim (linked-split a b p q h) [ inl i ↦ inl (inr i) | inr i ↦ inr i ]

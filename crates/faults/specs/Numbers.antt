@@ -1,11 +1,13 @@
 -- The number of a cause, and its layer, whose digit is the number's tens digit.
 use Prim.Native.Nat.{ℕ}
 use Rattle.faults.specs.declared.Cause.{Cause}
-use Rattle.faults.specs.declared.Cause.the-variants.{NotAPacket, LengthMismatch, TooManyClaims, ClaimPastEnd, UnknownValueType, BooleanOverOne, IllFormedText, UncarriableClaim, BufferTooShort, PacketTooLarge}
+use Rattle.faults.specs.declared.Cause.the-variants.{MalformedPattern, PatternOverLimit, NotAPacket, LengthMismatch, TooManyClaims, ClaimPastEnd, UnknownValueType, BooleanOverOne, IllFormedText, UncarriableClaim, BufferTooShort, PacketTooLarge}
 use Rattle.faults.specs.declared.Layer.{Layer}
-use Rattle.faults.specs.declared.Layer.the-variants.{Packet, Session, Output}
+use Rattle.faults.specs.declared.Layer.the-variants.{Checks, Packet, Session, Output}
 
 abbrev pub numberOf : Cause → ℕ
+numberOf MalformedPattern = 44
+numberOf PatternOverLimit = 45
 numberOf NotAPacket = 51
 numberOf LengthMismatch = 52
 numberOf TooManyClaims = 53
@@ -18,6 +20,8 @@ numberOf BufferTooShort = 81
 numberOf PacketTooLarge = 82
 
 abbrev pub layerOf : Cause → Layer
+layerOf MalformedPattern = Checks
+layerOf PatternOverLimit = Checks
 layerOf NotAPacket = Packet
 layerOf LengthMismatch = Packet
 layerOf TooManyClaims = Packet
@@ -30,6 +34,7 @@ layerOf BufferTooShort = Output
 layerOf PacketTooLarge = Output
 
 abbrev pub digitOf : Layer → ℕ
+digitOf Checks = 4
 digitOf Packet = 5
 digitOf Session = 6
 digitOf Output = 8

@@ -8,6 +8,8 @@ ghost use Rattle.faults.specs.At.{faultAt};
 
 #[derive(Clone, Copy, PartialEq, Eq, Debug)]
 pub enum Cause {
+    MalformedPattern,
+    PatternOverLimit,
     NotAPacket,
     LengthMismatch,
     TooManyClaims,
@@ -22,6 +24,7 @@ pub enum Cause {
 
 #[derive(Clone, Copy, PartialEq, Eq, Debug)]
 pub enum Layer {
+    Checks,
     Packet,
     Session,
     Output,
@@ -41,6 +44,8 @@ impl Cause {
         ensures { λ r. ⌜ r ≡ numberOf self ⌝ }
     {
         match self {
+            Cause::MalformedPattern => 44,
+            Cause::PatternOverLimit => 45,
             Cause::NotAPacket => 51,
             Cause::LengthMismatch => 52,
             Cause::TooManyClaims => 53,
@@ -59,6 +64,8 @@ impl Cause {
         ensures tens { λ r. ⌜ digitOf r ≡ numberOf self / 10 ⌝ }
     {
         match self {
+            Cause::MalformedPattern => Layer::Checks,
+            Cause::PatternOverLimit => Layer::Checks,
             Cause::NotAPacket => Layer::Packet,
             Cause::LengthMismatch => Layer::Packet,
             Cause::TooManyClaims => Layer::Packet,
@@ -78,6 +85,7 @@ impl Layer {
         ensures { λ r. ⌜ r ≡ digitOf self ⌝ }
     {
         match self {
+            Layer::Checks => 4,
             Layer::Packet => 5,
             Layer::Session => 6,
             Layer::Output => 8,

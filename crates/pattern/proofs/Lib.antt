@@ -1,0 +1,6 @@
+pub mod Looks
+pub mod Grow
+pub mod Onward
+pub mod Build
+pub mod Runs
+pub mod Sole

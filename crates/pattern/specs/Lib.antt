@@ -1,0 +1,4 @@
+pub mod Signs
+pub mod Grammar
+pub mod Parts
+pub mod Reading
