@@ -4,3 +4,5 @@ pub mod Onward
 pub mod Build
 pub mod Runs
 pub mod Sole
+pub mod Passing
+pub mod Formed

@@ -2,3 +2,4 @@ pub mod Signs
 pub mod Grammar
 pub mod Parts
 pub mod Reading
+pub mod Formed
