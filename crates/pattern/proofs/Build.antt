@@ -80,9 +80,9 @@ module _ {us : List ℕ} {d at n : ℕ} {f g k : Table} {a b : Part} where
     tree = either (x .tree) (y .tree);
     text = x .text ++ (124 ∷ y .text);
     split =
-      x .split
-      ∙ ap (λ z. x .text ++ z) (stood us (a .at) 124 e ∙ ap (λ z. 124 ∷ z) (y .split ∙ ap (λ z. y .text ++ drop z us) (sym (j .stays))))
-      ∙ sym (append-assoc (x .text) (124 ∷ y .text) (drop (r .at) us));
+        x .split
+        ∙ ap (λ z. x .text ++ z) (stood us (a .at) 124 e ∙ ap (λ z. 124 ∷ z) (y .split ∙ ap (λ z. y .text ++ drop z us) (sym (j .stays))))
+        ∙ sym (append-assoc (x .text) (124 ∷ y .text) (drop (r .at) us));
     spelt = or-way (x .text) (y .text) refl (x .spelt) (y .spelt);
     begins = j .begins ∙ (λ i. bitOr (x .begins i) ((y .begins ∙ ap (first (y .tree)) (x .counts)) i));
     ends = j .ends ∙ (λ i. bitOr (x .ends i) ((y .ends ∙ ap (last (y .tree)) (x .counts)) i));
@@ -98,9 +98,9 @@ module _ {us : List ℕ} {d at n : ℕ} {f g k : Table} {a b : Part} where
     tree = followed (x .tree) (y .tree);
     text = x .text ++ y .text;
     split =
-      x .split
-      ∙ ap (λ z. x .text ++ z) (y .split ∙ ap (λ z. y .text ++ drop z us) (sym (j .stays)))
-      ∙ sym (append-assoc (x .text) (y .text) (drop (r .at) us));
+        x .split
+        ∙ ap (λ z. x .text ++ z) (y .split ∙ ap (λ z. y .text ++ drop z us) (sym (j .stays)))
+        ∙ sym (append-assoc (x .text) (y .text) (drop (r .at) us));
     spelt = and-then (x .text) (y .text) refl (x .spelt) (y .spelt);
     begins = j .begins ∙ (λ i. bitOr (x .begins i) (cond (x .nulls i) ((y .begins ∙ ap (first (y .tree)) (x .counts)) i) 0));
     ends = j .ends ∙ (λ i. bitOr ((y .ends ∙ ap (last (y .tree)) (x .counts)) i) (cond (y .nulls i) (x .ends i) 0));
@@ -109,10 +109,10 @@ module _ {us : List ℕ} {d at n : ℕ} {f g k : Table} {a b : Part} where
     few = subst (λ i. i ≤ 60) (sym (j .counts)) (y .few);
     takes = ap (λ z. take (r .next) z) same ∙ ap (λ i. take i (k .atoms)) (j .counts) ∙ atoms-more x y;
     leads =
-      subst (Grown (f .follow) (l .follow)) (append-assoc (links (x .tree) n) (links (y .tree) (n + size (x .tree))) _)
-      (grown-more (f .follow) (k .follow) (l .follow) _ _ (leads-more x y)
+        subst (Grown (f .follow) (l .follow)) (append-assoc (links (x .tree) n) (links (y .tree) (n + size (x .tree))) _)
+        (grown-more (f .follow) (k .follow) (l .follow) _ _ (leads-more x y)
         (subst (λ z. Grown (k .follow) (l .follow) ((z, first (y .tree) (n + size (x .tree))) ∷ [])) (x .ends)
-          (subst (λ z. Grown (k .follow) (l .follow) ((a .last, z) ∷ [])) (y .begins ∙ ap (first (y .tree)) (x .counts)) grow)));
+        (subst (λ z. Grown (k .follow) (l .follow) ((a .last, z) ∷ [])) (y .begins ∙ ap (first (y .tree)) (x .counts)) grow)));
   }
 
 -- an atom and the unit c behind it
@@ -185,8 +185,8 @@ got-group {us} {d} {at} {n} {f} {g} {p} {r} e x e′ j h = record {
   tree = x .tree;
   text = 40 ∷ (x .text ++ (41 ∷ []));
   split =
-    stood us at 40 e
-    ∙ ap (λ z. 40 ∷ z) (x .split ∙ ap (λ z. x .text ++ z) (stood us (p .at) 41 e′ ∙ ap (λ z. 41 ∷ drop z us) (sym (j .stays))) ∙ sym (append-assoc (x .text) (41 ∷ []) (drop (r .at) us)));
+      stood us at 40 e
+      ∙ ap (λ z. 40 ∷ z) (x .split ∙ ap (λ z. x .text ++ z) (stood us (p .at) 41 e′ ∙ ap (λ z. 41 ∷ drop z us) (sym (j .stays))) ∙ sym (append-assoc (x .text) (41 ∷ []) (drop (r .at) us)));
   spelt = bracketed (x .text) refl (x .spelt);
   begins = j .begins ∙ x .begins;
   ends = j .ends ∙ x .ends;

@@ -42,13 +42,13 @@ loosen d (u ∷ us) h = more-free d (classOf u) us h
 plain-takes : (c : ℕ) → special c ≡ false → classOf c ≡ Takes
 plain-takes c h =
     λ i.
-      cond (no-eq c 40 refl h i) Opens
-      (cond (no-eq c 41 refl h i) Closes
-      (cond (no-eq c 124 refl h i) Parts
-      (cond (no-eq c 92 refl h i) Escapes
-      (cond (no-eq c 42 refl h i || no-eq c 43 refl h i || no-eq c 63 refl h i) Repeats
-      (cond (no-eq c 36 refl h i) Ends
-      (cond (no-eq c 91 refl h i || no-eq c 93 refl h i || no-eq c 94 refl h i) Strays Takes))))))
+    cond (no-eq c 40 refl h i) Opens
+    (cond (no-eq c 41 refl h i) Closes
+    (cond (no-eq c 124 refl h i) Parts
+    (cond (no-eq c 92 refl h i) Escapes
+    (cond (no-eq c 42 refl h i || no-eq c 43 refl h i || no-eq c 63 refl h i) Repeats
+    (cond (no-eq c 36 refl h i) Ends
+    (cond (no-eq c 91 refl h i || no-eq c 93 refl h i || no-eq c 94 refl h i) Strays Takes))))))
 
 -- what may stand behind a part of each kind for the pass to succeed
 abbrev Then : Kind → State
@@ -158,8 +158,8 @@ takes-dot u e d = (one Any, subst (λ z. Spells d atom (one Any) (z ∷ [])) (sy
 outside : (u a b : ℕ) → (a ≤ u → u ≤ b → ⊥) → (leb a u && leb u b) ≡ false
 outside u a b h =
     elim (cases-lt u a) [
-      inl lt ↦ and-left (leb a u) (leb u b) (lt-leb a u lt)
-    | inr le ↦ elim (cases-lt b u) [ inl gt ↦ and-right (leb a u) (leb u b) (lt-leb u b gt) | inr ge ↦ absurd (h le ge) ]
+      | inl lt ↦ and-left (leb a u) (leb u b) (lt-leb a u lt)
+      | inr le ↦ elim (cases-lt b u) [ inl gt ↦ and-right (leb a u) (leb u b) (lt-leb u b gt) | inr ge ↦ absurd (h le ge) ]
     ]
 
 module _ (u : ℕ) (a : eqb u 40 ≡ false) (b : eqb u 41 ≡ false) (c : eqb u 124 ≡ false) (d : eqb u 92 ≡ false) (e : (eqb u 42 || eqb u 43 || eqb u 63) ≡ false) (f : eqb u 36 ≡ false) (g : (eqb u 91 || eqb u 93 || eqb u 94) ≡ false) where
@@ -186,10 +186,10 @@ module _ (u : ℕ) (a : eqb u 40 ≡ false) (b : eqb u 41 ≡ false) (c : eqb u 
   takes-is : Is Takes u
   takes-is =
       elim (cases-bool (eqb u 46)) [
-        inl dotted ↦ takes-dot u (eqb-true u 46 dotted)
-      | inr plain ↦
-          let p = or-parts (eqb u 42 || eqb u 43) (eqb u 63) e in
-          takes-plain u (λ i. rounds i || plain i || p .1 i || c i || squares i || f i)
+        | inl dotted ↦ takes-dot u (eqb-true u 46 dotted)
+        | inr plain ↦
+            let p = or-parts (eqb u 42 || eqb u 43) (eqb u 63) e in
+            takes-plain u (λ i. rounds i || plain i || p .1 i || c i || squares i || f i)
       ]
 
 choose : (b : Bool) (c k : Class) (u : ℕ) → (b ≡ true → Is c u) → (b ≡ false → Is k u) → Is (cond b c k) u
@@ -199,19 +199,19 @@ choose false c k u f g = g refl
 repeats-is : (u : ℕ) → (eqb u 42 || eqb u 43 || eqb u 63) ≡ true → Is Repeats u
 repeats-is u h =
     elim (or-cases (eqb u 42 || eqb u 43) (eqb u 63) h) [
-      inl i ↦ elim (or-cases (eqb u 42) (eqb u 43) i) [ inl j ↦ inl (eqb-true u 42 j) | inr j ↦ inr (inl (eqb-true u 43 j)) ]
-    | inr i ↦ inr (inr (eqb-true u 63 i))
+      | inl i ↦ elim (or-cases (eqb u 42) (eqb u 43) i) [ inl j ↦ inl (eqb-true u 42 j) | inr j ↦ inr (inl (eqb-true u 43 j)) ]
+      | inr i ↦ inr (inr (eqb-true u 63 i))
     ]
 
 class-is : (u : ℕ) → Is (classOf u) u
 class-is u =
     choose (eqb u 40) Opens _ u (eqb-true u 40) (λ a.
-      choose (eqb u 41) Closes _ u (eqb-true u 41) (λ b.
-        choose (eqb u 124) Parts _ u (eqb-true u 124) (λ c.
-          choose (eqb u 92) Escapes _ u (eqb-true u 92) (λ d.
-            choose (eqb u 42 || eqb u 43 || eqb u 63) Repeats _ u (repeats-is u) (λ e.
-              choose (eqb u 36) Ends _ u (eqb-true u 36) (λ f.
-                choose (eqb u 91 || eqb u 93 || eqb u 94) Strays Takes u (λ _. tt) (takes-is u a b c d e f)))))))
+    choose (eqb u 41) Closes _ u (eqb-true u 41) (λ b.
+    choose (eqb u 124) Parts _ u (eqb-true u 124) (λ c.
+    choose (eqb u 92) Escapes _ u (eqb-true u 92) (λ d.
+    choose (eqb u 42 || eqb u 43 || eqb u 63) Repeats _ u (repeats-is u) (λ e.
+    choose (eqb u 36) Ends _ u (eqb-true u 36) (λ f.
+    choose (eqb u 91 || eqb u 93 || eqb u 94) Strays Takes u (λ _. tt) (takes-is u a b c d e f)))))))
 
 -- a bracket and what it holds
 bracket : (d : ℕ) (s : List ℕ) → Meant Fresh (suc d) s → Rest Some-choice d (40 ∷ s)
@@ -232,10 +232,10 @@ repeat : (u : ℕ) → Is Repeats u → (v : List ℕ) → Some-choice v → Goi
 repeat u k v c d a w x =
     subst Some-choice (append-assoc w (u ∷ []) v)
     (elim k [
-      inl e ↦ subst (λ z. Some-choice ((w ++ (z ∷ [])) ++ v)) (sym e) (before (starred w refl x) (c .2))
-    | inr k′ ↦ elim k′ [
-        inl e ↦ subst (λ z. Some-choice ((w ++ (z ∷ [])) ++ v)) (sym e) (before (plussed w refl x) (c .2))
-      | inr e ↦ subst (λ z. Some-choice ((w ++ (z ∷ [])) ++ v)) (sym e) (before (queried w refl x) (c .2))
+      | inl e ↦ subst (λ z. Some-choice ((w ++ (z ∷ [])) ++ v)) (sym e) (before (starred w refl x) (c .2))
+      | inr k′ ↦ elim k′ [
+        | inl e ↦ subst (λ z. Some-choice ((w ++ (z ∷ [])) ++ v)) (sym e) (before (plussed w refl x) (c .2))
+        | inr e ↦ subst (λ z. Some-choice ((w ++ (z ∷ [])) ++ v)) (sym e) (before (queried w refl x) (c .2))
       ]
     ])
 

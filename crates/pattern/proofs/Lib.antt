@@ -6,3 +6,4 @@ pub mod Runs
 pub mod Sole
 pub mod Passing
 pub mod Formed
+pub mod Whole

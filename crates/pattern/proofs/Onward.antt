@@ -119,11 +119,11 @@ pub stop-loose : (v : List ℕ) → stops v ≡ true → repeats v ≡ false
 stop-loose [] h = refl
 stop-loose (x ∷ v) h =
     elim (or-cases (eqb x 124 || eqb x 41) (eqb x 36) h) [
-      inl i ↦ elim (or-cases (eqb x 124) (eqb x 41) i) [
-        inl j ↦ ap (λ z. repeats (z ∷ v)) (eqb-true x 124 j)
-      | inr j ↦ ap (λ z. repeats (z ∷ v)) (eqb-true x 41 j)
+      | inl i ↦ elim (or-cases (eqb x 124) (eqb x 41) i) [
+        | inl j ↦ ap (λ z. repeats (z ∷ v)) (eqb-true x 124 j)
+        | inr j ↦ ap (λ z. repeats (z ∷ v)) (eqb-true x 41 j)
       ]
-    | inr i ↦ ap (λ z. repeats (z ∷ v)) (eqb-true x 36 i)
+      | inr i ↦ ap (λ z. repeats (z ∷ v)) (eqb-true x 36 i)
     ]
 
 -- no repeat stands behind an item of a sequence

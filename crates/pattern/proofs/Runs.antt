@@ -61,9 +61,9 @@ module _ {us : List ℕ} {d at n : ℕ} {f g : Table} {a : Part} (x : Sequenced 
   seq-step {k} {l} {b} {r} go y same grow j = record {
     got = got-both (x .got) (y .got) same grow j;
     onto = λ D t u v s e h.
-      let o = x .onto D t u v s e h in
-      let i = step-on us (a .at) (b .at) (y .got .tree) (y .got .text) go (y .only) (y .got .split) (o .1) v (o .3) h in
-      (i .0, i .1, o .2 ∙ ap (λ z. x .got .text ++ z) (i .2) ∙ sym (append-assoc (x .got .text) (y .got .text) (i .0)), ap (λ z. drop z us) (j .stays) ∙ i .3);
+        let o = x .onto D t u v s e h in
+        let i = step-on us (a .at) (b .at) (y .got .tree) (y .got .text) go (y .only) (y .got .split) (o .1) v (o .3) h in
+        (i .0, i .1, o .2 ∙ ap (λ z. x .got .text ++ z) (i .2) ∙ sym (append-assoc (x .got .text) (y .got .text) (i .0)), ap (λ z. drop z us) (j .stays) ∙ i .3);
     inside = (omega (arith, x .inside, y .inside, j .stays), omega (arith, y .inside, j .stays));
   }
 
@@ -78,9 +78,9 @@ module _ {us : List ℕ} {d at n : ℕ} {f g : Table} {a : Part} (x : Sequenced 
   seq-read st = record {
     got = x .got;
     only = λ D t u v s e h.
-      let o = x .onto D t u v s e h in
-      let i = items-stop (o .1) v (sym (ap stops (o .3)) ∙ st) in
-      (i .0, o .2 ∙ ap (λ z. x .got .text ++ z) (i .1) ∙ append-nil (x .got .text));
+        let o = x .onto D t u v s e h in
+        let i = items-stop (o .1) v (sym (ap stops (o .3)) ∙ st) in
+        (i .0, o .2 ∙ ap (λ z. x .got .text ++ z) (i .1) ∙ append-nil (x .got .text));
     inside = x .inside;
   }
 
@@ -97,10 +97,10 @@ pub choice-begin : {us : List ℕ} {d at n : ℕ} {f g : Table} {a : Part} → R
 choice-begin {us} {d} {at} {n} {f} {g} {a} x = record {
   got = got-way (x .got);
   onto = λ D t u v s e h.
-    let w = ways-of s in
-    let e′ = e ∙ ap (λ z. z ++ v) (w .whole) ∙ append-assoc (w .front) (w .rest) v in
-    let o = x .only D (w .tree) (w .front) (w .rest ++ v) (w .spelt) e′ (ways-stop (w .ways) v (h .0)) in
-    (w .rest, subst (λ z. Ways D z t (w .rest)) (o .0) (w .ways), w .whole ∙ ap (λ z. z ++ w .rest) (o .1), append-cancel-left (x .got .text) (drop (a .at) us) (w .rest ++ v) (sym (x .got .split) ∙ e′ ∙ ap (λ z. z ++ (w .rest ++ v)) (o .1)));
+      let w = ways-of s in
+      let e′ = e ∙ ap (λ z. z ++ v) (w .whole) ∙ append-assoc (w .front) (w .rest) v in
+      let o = x .only D (w .tree) (w .front) (w .rest ++ v) (w .spelt) e′ (ways-stop (w .ways) v (h .0)) in
+      (w .rest, subst (λ z. Ways D z t (w .rest)) (o .0) (w .ways), w .whole ∙ ap (λ z. z ++ w .rest) (o .1), append-cancel-left (x .got .text) (drop (a .at) us) (w .rest ++ v) (sym (x .got .split) ∙ e′ ∙ ap (λ z. z ++ (w .rest ++ v)) (o .1)));
   inside = x .inside;
 }
 
@@ -123,9 +123,9 @@ module _ {us : List ℕ} {d at n : ℕ} {f g : Table} {a : Part} (x : Chosen us 
   choice-step {k} {b} {r} bar y j = record {
     got = got-either (x .got) bar (y .got) j;
     onto = λ D t u v s e h.
-      let o = x .onto D t u v s e h in
-      let i = way-on us (a .at) (b .at) (y .got .tree) (y .got .text) bar (y .only) (y .got .split) (o .1) v (o .3) h in
-      (i .0, i .1, o .2 ∙ ap (λ z. x .got .text ++ z) (i .2) ∙ sym (append-assoc (x .got .text) (124 ∷ y .got .text) (i .0)), ap (λ z. drop z us) (j .stays) ∙ i .3);
+        let o = x .onto D t u v s e h in
+        let i = way-on us (a .at) (b .at) (y .got .tree) (y .got .text) bar (y .only) (y .got .split) (o .1) v (o .3) h in
+        (i .0, i .1, o .2 ∙ ap (λ z. x .got .text ++ z) (i .2) ∙ sym (append-assoc (x .got .text) (124 ∷ y .got .text) (i .0)), ap (λ z. drop z us) (j .stays) ∙ i .3);
     inside = (omega (arith, x .inside, y .inside, j .stays), omega (arith, y .inside, j .stays));
   }
 
@@ -133,9 +133,9 @@ module _ {us : List ℕ} {d at n : ℕ} {f g : Table} {a : Part} (x : Chosen us 
   choice-read st = record {
     got = x .got;
     only = λ D t u v s e h.
-      let o = x .onto D t u v s e h in
-      let i = ways-end (o .1) v (sym (ap (begins 124) (o .3)) ∙ st) in
-      (i .0, o .2 ∙ ap (λ z. x .got .text ++ z) (i .1) ∙ append-nil (x .got .text));
+        let o = x .onto D t u v s e h in
+        let i = ways-end (o .1) v (sym (ap (begins 124) (o .3)) ∙ st) in
+        (i .0, o .2 ∙ ap (λ z. x .got .text ++ z) (i .1) ∙ append-nil (x .got .text));
     inside = x .inside;
   }
 

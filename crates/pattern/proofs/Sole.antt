@@ -99,9 +99,9 @@ module _ {us : List ℕ} {d at n : ℕ} {f g : Table} {a : Part} (x : Read atom 
   item-once p q r = record {
     got = got-once (x .got);
     only = λ D t u v s e h.
-      let m = marked D t u v s e in
-      let i = mark-none v (m .1) (sym (ap (begins 42) (m .3)) ∙ p) (sym (ap (begins 43) (m .3)) ∙ q) (sym (ap (begins 63) (m .3)) ∙ r) in
-      (i .0, m .2 ∙ ap (λ z. x .got .text ++ z) (i .1) ∙ append-nil _);
+        let m = marked D t u v s e in
+        let i = mark-none v (m .1) (sym (ap (begins 42) (m .3)) ∙ p) (sym (ap (begins 43) (m .3)) ∙ q) (sym (ap (begins 63) (m .3)) ∙ r) in
+        (i .0, m .2 ∙ ap (λ z. x .got .text ++ z) (i .1) ∙ append-nil _);
     inside = x .inside;
   }
 
@@ -113,9 +113,9 @@ module _ {us : List ℕ} {d at n : ℕ} {f g : Table} {a : Part} (x : Read atom 
     item-star k p same grow z = record {
       got = got-star (x .got) j k p same grow z;
       only = λ D t u v s e h.
-        let m = marked D t u v s e in
-        let i = mark-star v (m .1) h (sym (ap (begins 42) (m .3)) ∙ p) in
-        (i .0, m .2 ∙ ap (λ z. x .got .text ++ z) (i .1));
+          let m = marked D t u v s e in
+          let i = mark-star v (m .1) h (sym (ap (begins 42) (m .3)) ∙ p) in
+          (i .0, m .2 ∙ ap (λ z. x .got .text ++ z) (i .1));
       inside = on 42 p;
     }
 
@@ -123,9 +123,9 @@ module _ {us : List ℕ} {d at n : ℕ} {f g : Table} {a : Part} (x : Read atom 
     item-plus k p same grow z = record {
       got = got-plus (x .got) j k p same grow z;
       only = λ D t u v s e h.
-        let m = marked D t u v s e in
-        let i = mark-plus v (m .1) h (sym (ap (begins 43) (m .3)) ∙ p) in
-        (i .0, m .2 ∙ ap (λ z. x .got .text ++ z) (i .1));
+          let m = marked D t u v s e in
+          let i = mark-plus v (m .1) h (sym (ap (begins 43) (m .3)) ∙ p) in
+          (i .0, m .2 ∙ ap (λ z. x .got .text ++ z) (i .1));
       inside = on 43 p;
     }
 
@@ -133,9 +133,9 @@ module _ {us : List ℕ} {d at n : ℕ} {f g : Table} {a : Part} (x : Read atom 
     item-opt p z = record {
       got = got-opt (x .got) j p z;
       only = λ D t u v s e h.
-        let m = marked D t u v s e in
-        let i = mark-opt v (m .1) h (sym (ap (begins 63) (m .3)) ∙ p) in
-        (i .0, m .2 ∙ ap (λ z. x .got .text ++ z) (i .1));
+          let m = marked D t u v s e in
+          let i = mark-opt v (m .1) h (sym (ap (begins 63) (m .3)) ∙ p) in
+          (i .0, m .2 ∙ ap (λ z. x .got .text ++ z) (i .1));
       inside = on 63 p;
     }
 
@@ -185,9 +185,9 @@ module _ (us : List ℕ) (at : ℕ) (here : begins 40 (drop at us) ≡ true) whe
       subst (λ i. Read atom us i at n f g r) k (record {
         got = got-group here (x .got) close j z;
         only = λ D t u v s e h.
-          let w = group s v e in
-          let o = x .only (w .depth) t (w .inner) (41 ∷ v) (w .spelt) (inside-of v e w) (refl, refl) in
-          (o .0, w .whole ∙ ap (λ z. 40 ∷ (z ++ (41 ∷ []))) (o .1));
+            let w = group s v e in
+            let o = x .only (w .depth) t (w .inner) (41 ∷ v) (w .spelt) (inside-of v e w) (refl, refl) in
+            (o .0, w .whole ∙ ap (λ z. 40 ∷ (z ++ (41 ∷ []))) (o .1));
         inside = (omega (arith, x .inside, j .stays), omega (arith, j .stays));
       })
 
@@ -273,11 +273,11 @@ module _ (us : List ℕ) (at : ℕ) (away : begins 40 (drop at us) ≡ false) wh
       record {
         got = got-single a (w .text) (w .spelt) (w .split ∙ ap (λ z. w .text ++ z) (sym left)) few put same (subst (λ z. Single at z n r) (sym (w .long)) j);
         only = λ D t u v s e h.
-          let o = one-unit s v e in
-          let eq : _≡_ {A = Option (Atom × ℕ)} (Some (o .atom, length u)) (Some (a, k)) = sym (o .found) ∙ sym (ap simple e) ∙ sym is in
-          let p = same-found eq .0 in
-          let q = same-found eq .1 in
-          (o .tree ∙ ap one p, sym (take-at u v k q) ∙ ap (take k) (sym e ∙ w .split) ∙ take-at (w .text) (w .rest) k (w .long));
+            let o = one-unit s v e in
+            let eq : _≡_ {A = Option (Atom × ℕ)} (Some (o .atom, length u)) (Some (a, k)) = sym (o .found) ∙ sym (ap simple e) ∙ sym is in
+            let p = same-found eq .0 in
+            let q = same-found eq .1 in
+            (o .tree ∙ ap one p, sym (take-at u v k q) ∙ ap (take k) (sym e ∙ w .split) ∙ take-at (w .text) (w .rest) k (w .long));
         inside = (omega (arith, j .stays), omega (arith, j .stays, w .long));
       }
 

@@ -10,9 +10,9 @@ ghost use Rattle.units.specs.Units.{units};
 ghost use Rattle.pattern.specs.Grammar.{choice as Choice, sequence as Sequence, item as Item, atom as Atomic};
 ghost use Rattle.pattern.specs.Parts.{Either, Both, Moved, Single, Grown};
 ghost use Rattle.pattern.specs.Reading.{Outcome};
+use super::signs::*;
 use automaton::Atom;
 use automaton::has;
-use super::signs::*;
 
 // A part that was read: where it ends, the first place behind its own, where its runs begin and end, and whether
 // the empty run belongs.

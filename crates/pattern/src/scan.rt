@@ -7,9 +7,9 @@ ghost use Rattle.std.specs.declared.option.Option.the-variants.{Some, None};
 ghost use Rattle.units.specs.Units.{units};
 ghost use Rattle.pattern.specs.declared.scan.State.the-variants.{Fresh};
 ghost use Rattle.pattern.specs.Formed.{classOf, free as freely, after as afterwards, done, formed, Small};
+use super::signs::*;
 use units::count;
 use units::unit;
-use super::signs::*;
 
 // Where the pass stands: behind an atom, which a repeat may follow; where none may; behind a backslash; behind the
 // closing anchor.

@@ -11,14 +11,23 @@ use automaton::Atom;
 use units::unit_at;
 
 pub const DOT: u16 = 0x2E;
+
 pub const STAR: u16 = 0x2A;
+
 pub const PLUS: u16 = 0x2B;
+
 pub const QUERY: u16 = 0x3F;
+
 pub const BAR: u16 = 0x7C;
+
 pub const OPEN: u16 = 0x28;
+
 pub const CLOSE: u16 = 0x29;
+
 pub const ESCAPE: u16 = 0x5C;
+
 pub const HEAD: u16 = 0x5E;
+
 pub const TAIL: u16 = 0x24;
 
 // . * + ? | ( ) [ ] \ ^ $
@@ -75,7 +84,11 @@ fn unescaped(u: u16) -> Option<(Atom, usize)>
 fn behind_escape(u: u16) -> Option<(Atom, usize)>
     ensures { λ r. ⌜ r ≡ cond (isSpecial u) (Some (Plain u, 2)) None ⌝ }
 {
-    if special(u) { Some((Atom::Plain(u), 2)) } else { None }
+    if special(u) {
+        Some((Atom::Plain(u), 2))
+    } else {
+        None
+    }
 }
 
 // The atom for one unit of text that stands at the place, and how many units it is written with.

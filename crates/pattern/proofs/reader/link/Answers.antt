@@ -20,10 +20,10 @@ loop-p-again c =
     let long = c .loop-p .inv .1 in
     let lt : c .loop-p .p < length (c .loop-p .t .follow) = omega arith in
     elim (c .if-has .came) [
-      then-has w ↦ subst (λ z. (z .atoms ≡ c .args .t .now .atoms) × (length (z .follow) ≡ 60) × Spread f to old (z .follow) (c .loop-p .p + 1)) (sym (w .t-is))
-        (c .loop-p .inv .0, length-set now (c .loop-p .p) _ ∙ long, spread-add f to old now (c .loop-p .p) (c .loop-p .inv .2) (sym (w .if-has .ensures tt)) lt)
-    | else-has w ↦ subst (λ z. (z .atoms ≡ c .args .t .now .atoms) × (length (z .follow) ≡ 60) × Spread f to old (z .follow) (c .loop-p .p + 1)) (sym (w .t-is))
-        (c .loop-p .inv .0, long, spread-keep f to old now (c .loop-p .p) (c .loop-p .inv .2) (sym (w .if-has .ensures tt)))
+      | then-has w ↦ subst (λ z. (z .atoms ≡ c .args .t .now .atoms) × (length (z .follow) ≡ 60) × Spread f to old (z .follow) (c .loop-p .p + 1)) (sym (w .t-is))
+          (c .loop-p .inv .0, length-set now (c .loop-p .p) _ ∙ long, spread-add f to old now (c .loop-p .p) (c .loop-p .inv .2) (sym (w .if-has .ensures tt)) lt)
+      | else-has w ↦ subst (λ z. (z .atoms ≡ c .args .t .now .atoms) × (length (z .follow) ≡ 60) × Spread f to old (z .follow) (c .loop-p .p + 1)) (sym (w .t-is))
+          (c .loop-p .inv .0, long, spread-keep f to old now (c .loop-p .p) (c .loop-p .inv .2) (sym (w .if-has .ensures tt)))
     ]
 
 pub loop-p-holds : need.loop-p-holds
