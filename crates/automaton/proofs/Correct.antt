@@ -16,7 +16,7 @@ use Rattle.std.proofs.shelf.Lists.{getD-append-left, getD-append-right, getD-ta
 use Rattle.std.specs.Orderings.{Decides}
 use Rattle.automaton.specs.declared.Atom.{Atom}
 use Rattle.automaton.specs.declared.Atom.the-variants.{Plain}
-use Rattle.automaton.specs.Language.{fits, Tree, empty, one, either, followed, plus, Many, Then, In, After, Matches}
+use Rattle.automaton.specs.Language.{fits, Tree, empty, one, either, followed, star, plus, opt, Many, Then, In, After, Matches}
 use Rattle.automaton.specs.declared.Automaton.{Automaton}
 use Rattle.automaton.specs.Places.{bit, Has, size, null, first, last, Link, links, Linked, atomsOf, Stands}
 use Rattle.automaton.specs.Run.{room, masked, reached, stepped, ends as stops, run}
@@ -116,14 +116,18 @@ Behind empty n k p w = ⊥
 Behind (one s) n k p w = (p ≡ n) × k w
 Behind (either a b) n k p w = If (ltb p (n + size a)) (Behind a n k p w) (Behind b (n + size a) k p w)
 Behind (followed a b) n k p w = If (ltb p (n + size a)) (Behind a n (Then (In b) k) p w) (Behind b (n + size a) k p w)
+Behind (star a) n k p w = Behind a n (Then (Many (In a)) k) p w
 Behind (plus a) n k p w = Behind a n (Then (Many (In a)) k) p w
+Behind (opt a) n k p w = Behind a n k p w
 
 length-syms : (t : Tree) → length (atomsOf t) ≡ size t
 length-syms empty = refl
 length-syms (one s) = refl
 length-syms (either a b) = length-append (atomsOf a) (atomsOf b) ∙ (λ i. length-syms a i + length-syms b i)
 length-syms (followed a b) = length-append (atomsOf a) (atomsOf b) ∙ (λ i. length-syms a i + length-syms b i)
+length-syms (star a) = length-syms a
 length-syms (plus a) = length-syms a
+length-syms (opt a) = length-syms a
 
 module _ (S : ℕ → Atom) (K : ℕ → List ℕ → Type 0) where
   abbrev Agrees : Tree → ℕ → Lang → Type 0
@@ -153,14 +157,18 @@ module _ (S : ℕ → Atom) (K : ℕ → List ℕ → Type 0) where
     holds a n (Then (In b) k) (λ p w le lt. let c = if-yes (Behind a n (Then (In b) k) p w) (Behind b (n + size a) k p w) (ltb p (n + size a)) (lt-ltb p (n + size a) lt) in let d = g p w le (omega arith) in (λ x. c .0 (d .0 x), λ x. d .1 (c .1 x))) (spells-left a b n f),
     holds b (n + size a) k (λ p w le lt. let c = if-no (Behind a n (Then (In b) k) p w) (Behind b (n + size a) k p w) (ltb p (n + size a)) (le-ltb p (n + size a) le) in let d = g p w (omega arith) (omega arith) in (λ x. c .0 (d .0 x), λ x. d .1 (c .1 x))) (spells-right a b n f),
   )
+  holds (star a) n k g f = holds a n (Then (Many (In a)) k) g f
   holds (plus a) n k g f = holds a n (Then (Many (In a)) k) g f
+  holds (opt a) n k g f = holds a n k g f
 
   at-of : (t : Tree) (n p : ℕ) → n ≤ p → p < n + size t → At S K t n p
   at-of empty n p le lt = omega arith
   at-of (one s) n p le lt = omega arith
   at-of (either a b) n p le lt = elim (order p (n + size a)) [ inl i ↦ inl (at-of a n p le i) | inr i ↦ inr (at-of b (n + size a) p i (omega arith)) ]
   at-of (followed a b) n p le lt = elim (order p (n + size a)) [ inl i ↦ inl (at-of a n p le i) | inr i ↦ inr (at-of b (n + size a) p i (omega arith)) ]
+  at-of (star a) n p le lt = at-of a n p le lt
   at-of (plus a) n p le lt = at-of a n p le lt
+  at-of (opt a) n p le lt = at-of a n p le lt
 
 within : (t : Tree) (n : ℕ) (k : Lang) (p : ℕ) (w : List ℕ) → Behind t n k p w → (n ≤ p) × (p < n + size t)
 within empty n k p w x = absurd x
@@ -175,7 +183,9 @@ within (followed a b) n k p w x =
       | inl i ↦ let r = within a n (Then (In b) k) p w i in (omega arith, omega arith)
       | inr i ↦ let r = within b (n + size a) k p w i in (omega arith, omega arith)
     ]
+within (star a) n k p w x = within a n (Then (Many (In a)) k) p w x
 within (plus a) n k p w x = within a n (Then (Many (In a)) k) p w x
+within (opt a) n k p w x = within a n k p w x
 
 cond-true : (a b : Bool) → cond a true b ≡ true → (a ≡ true) ⊎ (b ≡ true)
 cond-true true b h = inl refl

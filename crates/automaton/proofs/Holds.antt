@@ -11,7 +11,7 @@ use borrow.Author.Tests.{true-eqb, eq-eqb}
 use Rattle.std.proofs.str.Laws.{order}
 use Rattle.std.proofs.shelf.Bits.{pow-pos, pow-add, shl-shr, pow-below}
 use Rattle.automaton.specs.declared.Atom.{Atom}
-use Rattle.automaton.specs.Language.{fits, Tree, empty, one, either, followed, plus, Many, none, more, Then, In}
+use Rattle.automaton.specs.Language.{fits, Tree, empty, one, either, followed, star, plus, opt, Many, none, more, Then, In}
 use Rattle.automaton.specs.Places.{bit, Has, size, null, first, last, Link, links, Linked}
 use Rattle.automaton.proofs.Sets.{bit-or}
 
@@ -93,14 +93,18 @@ null-of (either a b) (inr h) = true-or (null a) (null b) (null-of b h)
 null-of (followed a b) h =
     ap (λ z. z && null b) (null-of a (subst (In a) (empty-left (h .0) (h .1) (h .2)) (h .3)))
     ∙ null-of b (subst (In b) (empty-right (h .0) (h .1) (h .2)) (h .4))
+null-of (star a) h = refl
 null-of (plus a) h = null-of a (subst (In a) (empty-left (h .0) (h .1) (h .2)) (h .3))
+null-of (opt a) h = refl
 
 pub of-null : (t : Tree) → null t ≡ true → In t []
 of-null empty h = refl
 of-null (one s) h = absurd (false≢true h)
 of-null (either a b) h = elim (or-true (null a) (null b) h) [ inl i ↦ inl (of-null a i) | inr i ↦ inr (of-null b i) ]
 of-null (followed a b) h = let i = and-true (null a) (null b) h in ([], [], refl, of-null a (i .0), of-null b (i .1))
+of-null (star a) h = none
 of-null (plus a) h = ([], [], refl, of-null a h, none)
+of-null (opt a) h = inl refl
 
 pub if-has : (b : Bool) (s p : ℕ) → b ≡ true → Has s p → Has (cond b s 0) p
 if-has true s p e h = h
@@ -123,7 +127,9 @@ module _ (S : ℕ → Atom) (K : ℕ → List ℕ → Type 0) where
   Holds (one s) n k = (S n ≡ s) × ((w : List ℕ) → K n w → k w) × ((w : List ℕ) → k w → K n w)
   Holds (either a b) n k = Holds a n k × Holds b (n + size a) k
   Holds (followed a b) n k = Holds a n (Then (In b) k) × Holds b (n + size a) k
+  Holds (star a) n k = Holds a n (Then (Many (In a)) k)
   Holds (plus a) n k = Holds a n (Then (Many (In a)) k)
+  Holds (opt a) n k = Holds a n k
 
   abbrev pub Ahead : ℕ → ℕ → List ℕ → Type 0
   Ahead f x w = (p : ℕ) × Has f p × (fits (S p) x ≡ true) × K p w
@@ -167,7 +173,10 @@ module _ (S : ℕ → Atom) (K : ℕ → List ℕ → Type 0) where
   enter (either a b) n k h x u v (inr i) kv = ahead-right _ _ x _ (enter b (n + size a) k (h .1) x u v i kv)
   enter (followed a b) n k h x u v i kv =
       enter-cat a b n k (enter a n (Then (In b) k) (h .0)) (enter b (n + size a) k (h .1)) x u v (i .0) (i .1) (i .2) (i .3) (i .4) kv
+  enter (star a) n k h x u v i kv = many-enter a n k (enter a n (Then (Many (In a)) k) h) x u v kv i refl
   enter (plus a) n k h x u v i kv = enter-plus a n k (enter a n (Then (Many (In a)) k) h) x u v (i .0) (i .1) (i .2) (i .3) (i .4) kv
+  enter (opt a) n k h x u v (inl i) kv = absurd (cons≢nil i)
+  enter (opt a) n k h x u v (inr i) kv = enter a n k h x u v i kv
 
   pub leave : (t : Tree) (n : ℕ) (k : Lang) → Holds t n k → (x : ℕ) (v : List ℕ) → Ahead (first t n) x v → Then (In t) k (x ∷ v)
   leave empty n k h x v d = absurd (has-none (d .0) (d .1))
@@ -187,7 +196,9 @@ module _ (S : ℕ → Atom) (K : ℕ → List ℕ → Type 0) where
             let r = leave b (n + size a) k (h .1) x v (d .0, c .1, d .2, d .3) in
             (r .0, r .1, r .2, ([], r .0, refl, of-null a (c .0), r .3), r .4)
       ]
+  leave (star a) n k h x v d = regroup (x ∷ v) (λ u w p q. more u w refl p q) (leave a n (Then (Many (In a)) k) h x v d)
   leave (plus a) n k h x v d = regroup (x ∷ v) (λ u w p q. (u, w, refl, p, q)) (leave a n (Then (Many (In a)) k) h x v d)
+  leave (opt a) n k h x v d = let r = leave a n k h x v d in (r .0, r .1, r .2, inr (r .3), r .4)
 
   pub ends : (t : Tree) (n : ℕ) (k : Lang) → Holds t n k → (p : ℕ) (w : List ℕ) → Has (last t n) p → k w → K p w
   ends empty n k h p w l kw = absurd (has-none p l)
@@ -199,7 +210,9 @@ module _ (S : ℕ → Atom) (K : ℕ → List ℕ → Type 0) where
         | inl i ↦ ends b (n + size a) k (h .1) p w i kw
         | inr i ↦ let c = has-if (null b) (last a n) p i in ends a n (Then (In b) k) (h .0) p w (c .1) ([], w, refl, of-null b (c .0), kw)
       ]
+  ends (star a) n k h p w l kw = ends a n (Then (Many (In a)) k) h p w l ([], w, refl, none, kw)
   ends (plus a) n k h p w l kw = ends a n (Then (Many (In a)) k) h p w l ([], w, refl, none, kw)
+  ends (opt a) n k h p w l kw = ends a n k h p w l kw
 
   pub follows : (t : Tree) (n : ℕ) (k : Lang) → Holds t n k → (p q x : ℕ) (u : List ℕ) → Linked (links t n) p q → fits (S q) x ≡ true → K q u → K p (x ∷ u)
   follows empty n k h p q x u l f kq = absurd l
@@ -217,6 +230,14 @@ module _ (S : ℕ → Atom) (K : ℕ → List ℕ → Type 0) where
           ]
         ]
       ]
+  follows (star a) n k h p q x u l f kq =
+      elim (linked-split (links a n) _ p q l) [
+        | inl i ↦ follows a n (Then (Many (In a)) k) h p q x u i f kq
+        | inr j ↦ elim j [
+          | inl c ↦ ends a n (Then (Many (In a)) k) h p (x ∷ u) (c .0) (regroup (x ∷ u) (λ y w i m. more y w refl i m) (leave a n (Then (Many (In a)) k) h x u (q, c .1, f, kq)))
+          | inr c ↦ absurd c
+        ]
+      ]
   follows (plus a) n k h p q x u l f kq =
       elim (linked-split (links a n) _ p q l) [
         | inl i ↦ follows a n (Then (Many (In a)) k) h p q x u i f kq
@@ -225,6 +246,7 @@ module _ (S : ℕ → Atom) (K : ℕ → List ℕ → Type 0) where
           | inr c ↦ absurd c
         ]
       ]
+  follows (opt a) n k h p q x u l f kq = follows a n k h p q x u l f kq
 
   -- p is a place of t
   abbrev pub At : Tree → ℕ → ℕ → Type 0
@@ -232,7 +254,9 @@ module _ (S : ℕ → Atom) (K : ℕ → List ℕ → Type 0) where
   At (one s) n p = p ≡ n
   At (either a b) n p = At a n p ⊎ At b (n + size a) p
   At (followed a b) n p = At a n p ⊎ At b (n + size a) p
+  At (star a) n p = At a n p
   At (plus a) n p = At a n p
+  At (opt a) n p = At a n p
 
   abbrev pub Onward : List Link → ℕ → List ℕ → Type 0
   Onward ls p w = (x : ℕ) × (u : List ℕ) × (w ≡ x ∷ u) × (q : ℕ) × Linked ls p q × (fits (S q) x ≡ true) × K q u
@@ -279,6 +303,17 @@ module _ (S : ℕ → Atom) (K : ℕ → List ℕ → Type 0) where
         | inl i ↦ inl (has-left _ _ p (i .0), i .1)
         | inr o ↦ inr (on (links b (n + size a)) _ p w (λ q c. linked-right (links a n) _ p q (linked-left (links b (n + size a)) _ p q c)) o)
       ]
+  goes (star a) n k h p w at kp =
+      elim (goes a n (Then (Many (In a)) k) h p w at kp) [
+        | inl i ↦
+            let t = i .1 in
+            elim (behind (links (star a) n) (last a n) (first a n) p w (Many (In a)) k (i .0)
+            (λ q c. linked-right (links a n) _ p q (inl c)) (λ x u v m kv. many-enter a n k (enter a n (Then (Many (In a)) k) h) x u v kv m refl) (t .0) (t .1) (t .2) (t .3) (t .4)) [
+              | inl e ↦ inl (i .0, e .1)
+              | inr o ↦ inr o
+            ]
+        | inr o ↦ inr (on (links a n) _ p w (λ q. linked-left (links a n) _ p q) o)
+      ]
   goes (plus a) n k h p w at kp =
       elim (goes a n (Then (Many (In a)) k) h p w at kp) [
         | inl i ↦
@@ -290,3 +325,4 @@ module _ (S : ℕ → Atom) (K : ℕ → List ℕ → Type 0) where
             ]
         | inr o ↦ inr (on (links a n) _ p w (λ q. linked-left (links a n) _ p q) o)
       ]
+  goes (opt a) n k h p w at kp = goes a n k h p w at kp

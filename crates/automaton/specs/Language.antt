@@ -14,21 +14,15 @@ abbrev pub fits : Atom → ℕ → Bool
 fits (Plain c) u = eqb (foldUnit c) (foldUnit u)
 fits Any u = true
 
--- nothing, one atom, a choice of two, one behind the other, one or more times
+-- the empty sequence, one atom, a choice of two, one behind the other, and the repeats: any number, one or more, none or one
 pub data Tree : Type 0 where
   empty : Tree
   one : Atom → Tree
   either : Tree → Tree → Tree
   followed : Tree → Tree → Tree
+  star : Tree → Tree
   plus : Tree → Tree
-
--- none or one
-abbrev pub opt : Tree → Tree
-opt t = either t empty
-
--- any number: one or more, or none
-abbrev pub star : Tree → Tree
-star t = either (plus t) empty
+  opt : Tree → Tree
 
 -- any number of pieces, each in P
 pub data Many (P : List ℕ → Type 0) : List ℕ → Type 0 where
@@ -45,7 +39,9 @@ In empty w = w ≡ []
 In (one a) w = (u : ℕ) × (w ≡ u ∷ []) × (fits a u ≡ true)
 In (either s t) w = In s w ⊎ In t w
 In (followed s t) w = Then (In s) (In t) w
+In (star t) w = Many (In t) w
 In (plus t) w = Then (In t) (Many (In t)) w
+In (opt t) w = (w ≡ []) ⊎ In t w
 
 -- what may be left of the text behind the run: nothing, under the closing anchor
 abbrev pub After : Bool → List ℕ → Type 0

@@ -9,7 +9,7 @@ use lib.Dec.{eqb}
 use lib.ListN.{getD, take}
 use Rattle.automaton.specs.declared.Atom.{Atom}
 use Rattle.automaton.specs.declared.Automaton.{Automaton}
-use Rattle.automaton.specs.Language.{Tree, empty, one, either, followed, plus}
+use Rattle.automaton.specs.Language.{Tree, empty, one, either, followed, star, plus, opt}
 
 -- a set of places is a number: is the place p in it?
 abbrev pub bit : ℕ → ℕ → Bool
@@ -24,14 +24,18 @@ size empty = 0
 size (one a) = 1
 size (either s t) = size s + size t
 size (followed s t) = size s + size t
+size (star t) = size t
 size (plus t) = size t
+size (opt t) = size t
 
 abbrev pub atomsOf : Tree → List Atom
 atomsOf empty = []
 atomsOf (one a) = a ∷ []
 atomsOf (either s t) = atomsOf s ++ atomsOf t
 atomsOf (followed s t) = atomsOf s ++ atomsOf t
+atomsOf (star t) = atomsOf t
 atomsOf (plus t) = atomsOf t
+atomsOf (opt t) = atomsOf t
 
 -- does the empty run belong?
 abbrev pub null : Tree → Bool
@@ -39,7 +43,9 @@ null empty = true
 null (one a) = false
 null (either s t) = null s || null t
 null (followed s t) = null s && null t
+null (star t) = true
 null (plus t) = null t
+null (opt t) = true
 
 -- where a run may begin, the tree's places being numbered from n
 abbrev pub first : Tree → ℕ → ℕ
@@ -47,7 +53,9 @@ first empty n = 0
 first (one a) n = 2 ^ n
 first (either s t) n = bitOr (first s n) (first t (n + size s))
 first (followed s t) n = bitOr (first s n) (cond (null s) (first t (n + size s)) 0)
+first (star t) n = first t n
 first (plus t) n = first t n
+first (opt t) n = first t n
 
 -- where a run may end
 abbrev pub last : Tree → ℕ → ℕ
@@ -55,7 +63,9 @@ last empty n = 0
 last (one a) n = 2 ^ n
 last (either s t) n = bitOr (last s n) (last t (n + size s))
 last (followed s t) n = bitOr (last t (n + size s)) (cond (null t) (last s n) 0)
+last (star t) n = last t n
 last (plus t) n = last t n
+last (opt t) n = last t n
 
 -- from each place of the first set one may go on to each of the second
 abbrev pub Link : Type 0
@@ -66,7 +76,9 @@ links empty n = []
 links (one a) n = []
 links (either s t) n = links s n ++ links t (n + size s)
 links (followed s t) n = links s n ++ (links t (n + size s) ++ (last s n, first t (n + size s)) ∷ [])
+links (star t) n = links t n ++ (last t n, first t n) ∷ []
 links (plus t) n = links t n ++ (last t n, first t n) ∷ []
+links (opt t) n = links t n
 
 -- some link leads from p to q
 abbrev pub Linked : List Link → ℕ → ℕ → Type 0

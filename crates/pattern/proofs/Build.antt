@@ -6,7 +6,7 @@ use Prim.Native.Nat.{ℕ, suc, _+_, _-_, _<_, _≤_}
 use native.Mathlib.Nat.{add-zero}
 use native.Mathlib.Numerals.{add-one}
 use native.Mathlib.Omega.{arith}
-use lib.Bits.{bitOr, or-zero-r}
+use lib.Bits.{bitOr}
 use lib.Dec.{eqb}
 use lib.ListN.{length, drop, take}
 use Rattle.std.proofs.shelf.Lists.{length-drop, length-append, drop-drop}
@@ -41,10 +41,6 @@ stood-within us i c h =
     let r = starts c (drop i us) h in
     let l = sym (length-drop i us) ∙ ap length (r .1) in
     omega arith
-
-pub or-last : (b : Bool) → (b || true) ≡ true
-or-last true = refl
-or-last false = refl
 
 abbrev pub got-empty : (us : List ℕ) (d at n : ℕ) (t : Table) (p : Part) → n ≤ 60 → p .at ≡ at → p .next ≡ n → p .first ≡ 0 → p .last ≡ 0 → p .null ≡ true → Got sequence us d at n t t p
 got-empty us d at n t p few a b f l z = record {
@@ -141,13 +137,13 @@ module _ {us : List ℕ} {d at n : ℕ} {f g : Table} {a r : Part} {b : Bool} (x
     text = x .text ++ (42 ∷ []);
     split = split-on 42 x e j;
     spelt = starred (x .text) refl (x .spelt);
-    begins = j .begins ∙ x .begins ∙ sym (or-zero-r _);
-    ends = j .ends ∙ x .ends ∙ sym (or-zero-r _);
-    nulls = j .nulls ∙ h ∙ sym (or-last (null (x .tree)));
-    counts = same-count ∙ ap (λ z. n + z) (sym (add-zero _));
+    begins = j .begins ∙ x .begins;
+    ends = j .ends ∙ x .ends;
+    nulls = j .nulls ∙ h;
+    counts = same-count;
     few = same-few;
-    takes = same-takes k same ∙ ap (λ z. take n (f .atoms) ++ z) (sym (append-nil _));
-    leads = subst (Grown (f .follow) (k .follow)) (sym (append-nil _)) (round k grow);
+    takes = same-takes k same;
+    leads = round k grow;
   }
 
   abbrev pub got-plus : (k : Table) → begins 43 (drop (a .at) us) ≡ true → k .atoms ≡ g .atoms → Grown (g .follow) (k .follow) ((a .last, a .first) ∷ []) → b ≡ a .null → Got item us d at n f k r
@@ -171,13 +167,13 @@ module _ {us : List ℕ} {d at n : ℕ} {f g : Table} {a r : Part} {b : Bool} (x
     text = x .text ++ (63 ∷ []);
     split = split-on 63 x e j;
     spelt = queried (x .text) refl (x .spelt);
-    begins = j .begins ∙ x .begins ∙ sym (or-zero-r _);
-    ends = j .ends ∙ x .ends ∙ sym (or-zero-r _);
-    nulls = j .nulls ∙ h ∙ sym (or-last (null (x .tree)));
-    counts = same-count ∙ ap (λ z. n + z) (sym (add-zero _));
+    begins = j .begins ∙ x .begins;
+    ends = j .ends ∙ x .ends;
+    nulls = j .nulls ∙ h;
+    counts = same-count;
     few = same-few;
-    takes = same-takes g refl ∙ ap (λ z. take n (f .atoms) ++ z) (sym (append-nil _));
-    leads = subst (Grown (f .follow) (g .follow)) (sym (append-nil _)) (x .leads);
+    takes = same-takes g refl;
+    leads = x .leads;
   }
 
 abbrev pub got-group : {us : List ℕ} {d at n : ℕ} {f g : Table} {p r : Part} {b : Bool} → begins 40 (drop at us) ≡ true → (x : Got choice us d (at + 1) n f g p) → begins 41 (drop (p .at) us) ≡ true → Moved p b r → b ≡ p .null → Got atom us (suc d) at n f g r
