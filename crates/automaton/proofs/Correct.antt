@@ -120,14 +120,14 @@ Behind (star a) n k p w = Behind a n (Then (Many (In a)) k) p w
 Behind (plus a) n k p w = Behind a n (Then (Many (In a)) k) p w
 Behind (opt a) n k p w = Behind a n k p w
 
-length-syms : (t : Tree) → length (atomsOf t) ≡ size t
-length-syms empty = refl
-length-syms (one s) = refl
-length-syms (either a b) = length-append (atomsOf a) (atomsOf b) ∙ (λ i. length-syms a i + length-syms b i)
-length-syms (followed a b) = length-append (atomsOf a) (atomsOf b) ∙ (λ i. length-syms a i + length-syms b i)
-length-syms (star a) = length-syms a
-length-syms (plus a) = length-syms a
-length-syms (opt a) = length-syms a
+pub length-atomsOf : (t : Tree) → length (atomsOf t) ≡ size t
+length-atomsOf empty = refl
+length-atomsOf (one s) = refl
+length-atomsOf (either a b) = length-append (atomsOf a) (atomsOf b) ∙ (λ i. length-atomsOf a i + length-atomsOf b i)
+length-atomsOf (followed a b) = length-append (atomsOf a) (atomsOf b) ∙ (λ i. length-atomsOf a i + length-atomsOf b i)
+length-atomsOf (star a) = length-atomsOf a
+length-atomsOf (plus a) = length-atomsOf a
+length-atomsOf (opt a) = length-atomsOf a
 
 module _ (S : ℕ → Atom) (K : ℕ → List ℕ → Type 0) where
   abbrev Agrees : Tree → ℕ → Lang → Type 0
@@ -137,13 +137,13 @@ module _ (S : ℕ → Atom) (K : ℕ → List ℕ → Type 0) where
   Spells xs n m = (i : ℕ) → i < m → S (n + i) ≡ getD xs i (Plain 0)
 
   spells-left : (a b : Tree) (n : ℕ) → Spells (atomsOf a ++ atomsOf b) n (size a + size b) → Spells (atomsOf a) n (size a)
-  spells-left a b n f i lt = f i (omega arith) ∙ getD-append-left (atomsOf a) (atomsOf b) (Plain 0) i (omega (arith, length-syms a))
+  spells-left a b n f i lt = f i (omega arith) ∙ getD-append-left (atomsOf a) (atomsOf b) (Plain 0) i (omega (arith, length-atomsOf a))
 
   spells-right : (a b : Tree) (n : ℕ) → Spells (atomsOf a ++ atomsOf b) n (size a + size b) → Spells (atomsOf b) (n + size a) (size b)
   spells-right a b n f i lt =
       let e : n + size a + i ≡ n + (size a + i) = omega arith in
       let d : size a + i - size a ≡ i = omega arith in
-      ap S e ∙ f (size a + i) (omega arith) ∙ getD-append-right (atomsOf a) (atomsOf b) (size a) (size a + i) (Plain 0) (length-syms a) (omega arith) ∙ ap (λ z. getD (atomsOf b) z (Plain 0)) d
+      ap S e ∙ f (size a + i) (omega arith) ∙ getD-append-right (atomsOf a) (atomsOf b) (size a) (size a + i) (Plain 0) (length-atomsOf a) (omega arith) ∙ ap (λ z. getD (atomsOf b) z (Plain 0)) d
 
   holds : (t : Tree) (n : ℕ) (k : Lang) → Agrees t n k → Spells (atomsOf t) n (size t) → Holds S K t n k
   holds empty n k g f = tt

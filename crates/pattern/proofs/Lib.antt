@@ -7,3 +7,4 @@ pub mod Sole
 pub mod Passing
 pub mod Formed
 pub mod Whole
+pub mod Examples

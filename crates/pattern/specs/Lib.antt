@@ -4,3 +4,4 @@ pub mod Parts
 pub mod Reading
 pub mod Formed
 pub mod Judged
+pub mod Examples
