@@ -63,8 +63,8 @@ stands-made head tail t few = record {
   few = few;
   takes = take-all (size t) (atomsOf t) (omega (arith, length-atomsOf t));
   leads = λ p q lt.
-    let e = at-table (links t 0) 0 60 p lt ∙ ap (next (links t 0)) (zero-add p) in
-    (λ h. linked-of (links t 0) p q (subst (λ z. Has z q) e h), λ h. subst (λ z. Has z q) (sym e) (of-linked (links t 0) p q h));
+      let e = at-table (links t 0) 0 60 p lt ∙ ap (next (links t 0)) (zero-add p) in
+      (λ h. linked-of (links t 0) p q (subst (λ z. Has z q) e h), λ h. subst (λ z. Has z q) (sym e) (of-linked (links t 0) p q h));
 }
 
 -- the match of a text can be computed

@@ -3,13 +3,11 @@
 // A text matches exactly when some run of its neighbouring units belongs to that tree, as the anchors allow.
 ghost use mathlib.Core.Path.{_≡_};
 ghost use mathlib.Core.Bool.{Bool, cond};
-ghost use Prim.Native.Nat.{ℕ};
-ghost use lib.Dec.{ltb};
-ghost use lib.ListN.{length};
 ghost use Rattle.std.specs.Orderings.{Decides};
 ghost use Rattle.units.specs.Units.{units};
 ghost use Rattle.automaton.specs.Language.{Tree, Matches};
 ghost use Rattle.automaton.specs.Places.{Stands};
+ghost use Rattle.pattern.specs.Examples.{Worked};
 ghost use Rattle.pattern.specs.Judged.{Reads, Decided};
 
 mod reader;
@@ -78,4 +76,11 @@ pub fn decide(pattern: &[u8], text: &[u8]) -> Result<bool, Cause>
 {
     let p = read(pattern)?;
     Ok(matches(&p, text))
+}
+
+// The worked pattern as a theorem: `^(a|bc)*$` spells its tree, BCA matches it, and ab does not.
+pub fn worked_example_stands() -> u8
+    ensures { λ _. ⌜ Worked ⌝ }
+{
+    0
 }

@@ -37,7 +37,10 @@ fn main(rt: LibcRuntime) -> io::Result<()> {
     for line in rt.lines(heap) {
         let line = line?;
         let mut fields = line.as_str().split('\t');
-        if let Some(pattern) = fields.next() && let Some(text) = fields.next() && let Some(expected) = fields.next() {
+        if let Some(pattern) = fields.next()
+            && let Some(text) = fields.next()
+            && let Some(expected) = fields.next()
+        {
             let got = judge(heap, pattern, text)?;
             if got.as_str() != expected {
                 wrong = wrong.saturating_add(1);
@@ -47,4 +50,34 @@ fn main(rt: LibcRuntime) -> io::Result<()> {
         }
     }
     println!(rt, "{rows} rows, {wrong} wrong")
+}
+
+#[cfg(test)]
+mod tests {
+    use super::*;
+    use faults::CauseDebug;
+    use std::test::*;
+
+    #[test]
+    fn worked_example(rt: LibcRuntime) -> Result<(), Fail> {
+        let heap = rt.alloc();
+        check(judge(heap, "^(a|bc)*$", "BCA")?.as_str() == "yes")?;
+        check(judge(heap, "^(a|bc)*$", "ab")?.as_str() == "no")
+    }
+
+    #[test]
+    fn malformed_before_too_deep(rt: LibcRuntime) -> Result<(), Fail> {
+        let heap = rt.alloc();
+        check(judge(heap, "(((((((((a)))))))))", "a")?.as_str() == "45")?;
+        check(judge(heap, "(((((((((a))))))))", "a")?.as_str() == "44")
+    }
+
+    #[test]
+    fn one_pattern_many_texts(rt: LibcRuntime) -> Result<(), Fail> {
+        let heap = rt.alloc();
+        let p = pattern::read(unit_bytes(heap, "^a+b?$")?.as_slice())?;
+        check(pattern::matches(&p, unit_bytes(heap, "aAb")?.as_slice()))?;
+        check(pattern::matches(&p, unit_bytes(heap, "a")?.as_slice()))?;
+        check(!pattern::matches(&p, unit_bytes(heap, "abb")?.as_slice()))
+    }
 }

@@ -80,9 +80,8 @@ choice-sequence-requires-in-loop-t t c κs =
 
 pub choice-returns-in-Break-b : need.choice-returns-in-Break-b
 choice-returns-in-Break-b t c =
-    let x = c .loop-t .inv (c .args .t .now) (c .in-Continue-a .ensures tt) in
     refused-is choice (units (c .args .s .now)) (c .args .depth) (c .args .at) (c .args .n) _ _ _ (c .from-residual-in-Break-b .ensures)
-    (choice-refused x (sym (c .loop-t-test .ensures tt)) (c .in-Break-b .ensures tt))
+    (choice-refused (c .loop-t .inv (c .args .t .now) (c .in-Continue-a .ensures tt)) (sym (c .loop-t-test .ensures tt)) (c .in-Break-b .ensures tt))
 
 pub choice-loop-t-less : need.choice-loop-t-less
 choice-loop-t-less t c =
