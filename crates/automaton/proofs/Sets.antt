@@ -2,10 +2,12 @@
 use mathlib.Core.Path.{_≡_, refl, sym, ap, subst, _∙_}
 use mathlib.Core.Bool.{Bool, true, false, cond, _||_, _&&_}
 use mathlib.Core.Logic.{_⊎_, inl, inr}
-use Prim.Native.Nat.{ℕ, zero, suc, _+_, _*_, _/_, _%_, _^_, _<_}
+use Prim.Native.Nat.{ℕ, zero, suc, _+_, _*_, _/_, _%_, _^_, _<_, _≤_}
 use native.Mathlib.Omega.{arith}
 use lib.Bits.{bitAnd, bitOr, or-shr, or-mod, and-shr, and-mod}
 use lib.Dec.{eqb}
+use lib.Pow.{pow-mono}
+use native.Mathlib.Nat.{div-eq-of-lt}
 use Rattle.std.proofs.shelf.Bits.{mod-below}
 use Rattle.automaton.specs.Places.{bit}
 
@@ -38,3 +40,10 @@ bit-and a b p =
     ap (λ n. eqb (n % 2) 1) (and-shr a b p)
     ∙ ap (λ n. eqb n 1) (and-mod (a / 2 ^ p) (b / 2 ^ p) 1)
     ∙ and-digit (a / 2 ^ p % 2) (b / 2 ^ p % 2) (omega arith) (omega arith)
+
+-- a set of 64 bits has no place from 64 on
+pub none-above : (s p : ℕ) → s < 2 ^ 64 → 64 ≤ p → bit s p ≡ false
+none-above s p lt le =
+    let m : 2 ^ 64 ≤ 2 ^ p = pow-mono le in
+    let z : s / 2 ^ p ≡ 0 = div-eq-of-lt (omega arith) in
+    ap (λ n. eqb (n % 2) 1) z

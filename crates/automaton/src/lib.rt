@@ -2,10 +2,7 @@
 // Each unit of the text takes one step from set to set, so the cost is the units of the text times the places.
 // An automaton stands for a tree with its anchors; what matching means is defined on the tree alone.
 ghost use mathlib.Core.Path.{_≡_};
-ghost use mathlib.Core.Bool.{Bool, true, cond, not, _&&_};
-ghost use Prim.Native.Nat.{ℕ, min, _<_};
-ghost use lib.Bits.{bitAnd};
-ghost use lib.Dec.{eqb};
+ghost use mathlib.Core.Bool.{Bool, cond};
 ghost use Rattle.std.specs.Orderings.{Decides};
 ghost use Rattle.units.specs.Units.{units};
 ghost use Rattle.automaton.specs.Language.{fits, Tree, Matches};
@@ -35,6 +32,7 @@ pub struct Automaton {
     pub follow: [u64; 60],
 }
 
+// Does the atom take the unit?
 fn takes(a: Atom, u: u16) -> bool
     ensures { λ r. ⌜ r ≡ fits a u ⌝ }
 {
@@ -46,10 +44,9 @@ fn takes(a: Atom, u: u16) -> bool
 
 // Is the place p in the set?
 pub fn has(set: u64, p: usize) -> bool
-    requires { ⌜ p < 64 ⌝ }
     ensures { λ r. ⌜ r ≡ bit set p ⌝ }
 {
-    (set >> p) % 2 == 1
+    p < 64 && (set >> p) % 2 == 1
 }
 
 // The places in use, never more than there is room for.
@@ -85,6 +82,7 @@ fn reach(a: &Automaton, begun: u64, s: u64) -> u64
     set
 }
 
+// The set, under a test.
 fn when(test: bool, set: u64) -> u64
     ensures { λ r. ⌜ r ≡ cond test set 0 ⌝ }
 {

@@ -4,8 +4,8 @@
 ghost use mathlib.Core.Path.{_≡_};
 ghost use mathlib.Core.Bool.{cond};
 ghost use mathlib.Core.List.{[], _∷_, _++_};
-ghost use Prim.Native.Nat.{ℕ, _+_, _<_, _≤_};
-ghost use lib.ListN.{length, take, drop};
+ghost use Prim.Native.Nat.{_+_, _^_, _<_, _≤_};
+ghost use lib.ListN.{length, take};
 ghost use Rattle.units.specs.Units.{units};
 ghost use Rattle.pattern.specs.Grammar.{choice as Choice, sequence as Sequence, item as Item, atom as Atomic};
 ghost use Rattle.pattern.specs.Parts.{Either, Both, Moved, Single, Grown};
@@ -44,6 +44,7 @@ fn link(t: &mut Table, from: u64, to: u64)
     }
 }
 
+// What the place n takes.
 fn put(t: &mut Table, n: usize, a: Atom)
     requires { ⌜ n < 60 ⌝ }
     ensures kept { λ _. ⌜ now (t .exit) .follow ≡ now (t .entry) .follow ⌝ }
@@ -52,12 +53,14 @@ fn put(t: &mut Table, n: usize, a: Atom)
     t.atoms[n] = a;
 }
 
+// The set, under a test.
 fn when(test: bool, set: u64) -> u64
     ensures { λ r. ⌜ r ≡ cond test set 0 ⌝ }
 {
     if test { set } else { 0 }
 }
 
+// A choice of two parts.
 fn either(a: Part, b: Part) -> Part
     ensures { λ r. ⌜ Either a b r ⌝ }
 {
@@ -70,6 +73,7 @@ fn either(a: Part, b: Part) -> Part
     }
 }
 
+// One part behind the other.
 fn both(a: Part, b: Part) -> Part
     ensures { λ r. ⌜ Both a b r ⌝ }
 {
@@ -82,8 +86,9 @@ fn both(a: Part, b: Part) -> Part
     }
 }
 
+// A part with one unit more behind it: a repeat or a closing bracket.
 fn moved(a: Part, null: bool) -> Part
-    requires { ⌜ a .at + 1 < 18446744073709551616 ⌝ }
+    requires { ⌜ a .at + 1 < 2 ^ 64 ⌝ }
     ensures { λ r. ⌜ Moved a null r ⌝ }
 {
     Part {
@@ -95,8 +100,9 @@ fn moved(a: Part, null: bool) -> Part
     }
 }
 
+// An atom at the place n, written with so many units.
 fn single(at: usize, units: usize, n: usize) -> Part
-    requires { ⌜ at + units < 18446744073709551616 ⌝ ∗ ⌜ n < 60 ⌝ }
+    requires { ⌜ at + units < 2 ^ 64 ⌝ ∗ ⌜ n < 60 ⌝ }
     ensures { λ r. ⌜ Single at units n r ⌝ }
 {
     Part {
@@ -108,6 +114,8 @@ fn single(at: usize, units: usize, n: usize) -> Part
     }
 }
 
+// Each of the four reads what stands at `at`, numbers its places from n on, and may open `depth` brackets more. None
+// says that no such part stands there within the limits.
 pub fn choice(s: &[u8], at: usize, n: usize, depth: usize, t: &mut Table) -> Option<Part>
     requires { ⌜ at ≤ length (units (now s)) ⌝ ∗ ⌜ n ≤ 60 ⌝ }
     ensures { λ r. ⌜ Outcome Choice (units (now (s .entry))) depth at n (now (t .entry)) (now (t .exit)) r ⌝ }

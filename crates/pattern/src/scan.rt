@@ -1,9 +1,7 @@
 // Is a pattern well formed, however deep its brackets nest? One pass, with a count of the brackets that are open.
 ghost use mathlib.Core.Path.{_≡_};
-ghost use mathlib.Core.Bool.{cond};
-ghost use Prim.Native.Nat.{_+_, _<_, _≤_};
-ghost use lib.ListN.{length, drop};
-ghost use Rattle.std.specs.declared.option.Option.the-variants.{Some, None};
+ghost use Prim.Native.Nat.{_+_, _^_, _<_};
+ghost use lib.ListN.{drop};
 ghost use Rattle.units.specs.Units.{units};
 ghost use Rattle.pattern.specs.declared.scan.State.the-variants.{Fresh};
 ghost use Rattle.pattern.specs.Formed.{classOf, free as freely, after as afterwards, done, formed, Small};
@@ -33,6 +31,7 @@ pub enum Class {
     Takes,
 }
 
+// What a unit does where it is not escaped.
 fn class_of(u: u16) -> Class
     ensures { λ r. ⌜ r ≡ classOf u ⌝ }
 {
@@ -48,8 +47,9 @@ fn class_of(u: u16) -> Class
     }
 }
 
+// A unit that is not escaped, with an atom before it or not.
 fn free(behind: bool, depth: usize, c: Class) -> Option<(State, usize)>
-    requires { ⌜ depth + 1 < 18446744073709551616 ⌝ }
+    requires { ⌜ depth + 1 < 2 ^ 64 ⌝ }
     ensures value { λ r. ⌜ r ≡ freely behind depth c ⌝ }
     ensures small { λ r. ⌜ Small depth r ⌝ }
 {
@@ -67,7 +67,7 @@ fn free(behind: bool, depth: usize, c: Class) -> Option<(State, usize)>
 
 // One unit on, or none if it may not stand there.
 fn after(state: State, depth: usize, u: u16) -> Option<(State, usize)>
-    requires { ⌜ depth + 1 < 18446744073709551616 ⌝ }
+    requires { ⌜ depth + 1 < 2 ^ 64 ⌝ }
     ensures value { λ r. ⌜ r ≡ afterwards state depth u ⌝ }
     ensures small { λ r. ⌜ Small depth r ⌝ }
 {
@@ -85,6 +85,7 @@ fn after(state: State, depth: usize, u: u16) -> Option<(State, usize)>
     }
 }
 
+// May the pattern end here?
 fn complete(state: State, depth: usize) -> bool
     ensures { λ r. ⌜ r ≡ done state depth ⌝ }
 {
@@ -95,6 +96,7 @@ fn complete(state: State, depth: usize) -> bool
     }
 }
 
+// Do the units from `start` on spell a choice, perhaps with the closing anchor, at any depth?
 pub fn well_formed(s: &[u8], start: usize) -> bool
     ensures { λ r. ⌜ r ≡ formed Fresh 0 (drop start (units (now (s .entry)))) ⌝ }
 {

@@ -1,8 +1,7 @@
 // The units that mean something of their own in a pattern.
 ghost use mathlib.Core.Path.{_≡_};
 ghost use mathlib.Core.Bool.{cond};
-ghost use Prim.Native.Nat.{_+_, _≤_};
-ghost use lib.ListN.{length, drop};
+ghost use lib.ListN.{drop};
 ghost use Rattle.units.specs.Units.{units};
 ghost use Rattle.pattern.specs.Signs.{special as isSpecial, begins, parting, stops as stopsAt, plainly, simple as simpleAt};
 ghost use Rattle.std.specs.declared.option.Option.the-variants.{Some, None};
@@ -50,6 +49,7 @@ pub fn stands(s: &[u8], at: usize, u: u16) -> bool
     }
 }
 
+// Does the unit part or end sequences?
 fn parts(u: u16) -> bool
     ensures { λ r. ⌜ r ≡ parting u ⌝ }
 {
@@ -69,6 +69,7 @@ pub fn stops(s: &[u8], at: usize) -> bool
     }
 }
 
+// A dot or a plain unit, written with one unit.
 fn unescaped(u: u16) -> Option<(Atom, usize)>
     ensures { λ r. ⌜ r ≡ plainly u ⌝ }
 {
@@ -81,6 +82,7 @@ fn unescaped(u: u16) -> Option<(Atom, usize)>
     }
 }
 
+// A special unit behind its escape, together two units.
 fn behind_escape(u: u16) -> Option<(Atom, usize)>
     ensures { λ r. ⌜ r ≡ cond (isSpecial u) (Some (Plain u, 2)) None ⌝ }
 {

@@ -66,13 +66,6 @@ mod tests {
     }
 
     #[test]
-    fn malformed_before_too_deep(rt: LibcRuntime) -> Result<(), Fail> {
-        let heap = rt.alloc();
-        check(judge(heap, "(((((((((a)))))))))", "a")?.as_str() == "45")?;
-        check(judge(heap, "(((((((((a))))))))", "a")?.as_str() == "44")
-    }
-
-    #[test]
     fn one_pattern_many_texts(rt: LibcRuntime) -> Result<(), Fail> {
         let heap = rt.alloc();
         let p = pattern::read(unit_bytes(heap, "^a+b?$")?.as_slice())?;
