@@ -1,4 +1,4 @@
--- An automaton computed from a tree, so that worked matches can be computed.
+-- The automaton that is computed from a tree stands for it.
 use mathlib.Core.Path.{_≡_, refl, sym, ap, subst, _∙_}
 use mathlib.Core.Bool.{Bool, true, false, cond, false≢true}
 use mathlib.Core.Logic.{_⊎_, inl, inr}
@@ -14,21 +14,9 @@ use Rattle.automaton.specs.declared.Automaton.{Automaton}
 use Rattle.automaton.specs.Language.{Tree, Matches}
 use Rattle.automaton.specs.Places.{bit, Has, size, atomsOf, null, first, last, Link, links, Linked, Stands}
 use Rattle.automaton.specs.Run.{run}
+use Rattle.automaton.specs.Made.{next, table, made}
 use Rattle.automaton.proofs.Holds.{has-none, has-split, has-left, has-right}
 use Rattle.automaton.proofs.Correct.{length-atomsOf, decided}
-
--- what may follow p
-abbrev pub next : List Link → ℕ → ℕ
-next [] p = 0
-next (l ∷ ls) p = cond (bit (l .0) p) (bitOr (l .1) (next ls p)) (next ls p)
-
--- for each of the n places from p on
-abbrev pub table : List Link → ℕ → ℕ → List ℕ
-table ls p zero = []
-table ls p (suc n) = next ls p ∷ table ls (p + 1) n
-
-abbrev pub made : Bool → Bool → Tree → Automaton
-made head tail t = record { head = head; tail = tail; nullable = null t; firsts = first t 0; lasts = last t 0; places = size t; atoms = atomsOf t; follow = table (links t 0) 0 60 }
 
 at-table : (ls : List Link) (p n i : ℕ) → i < n → getD (table ls p n) i 0 ≡ next ls (p + i)
 at-table ls p zero i lt = absurd (omega arith)

@@ -26,4 +26,6 @@ worked = (
   (codes "(a|bc)*", refl, spelt),
   computed true true sample (omega arith) (codes "BCA") .0 refl,
   λ m. false≢true (computed true true sample (omega arith) (codes "ab") .1 m),
+  refl,
+  refl,
 )

@@ -39,7 +39,7 @@ loosen : (d : ℕ) (us : List ℕ) → formed Fresh d us ≡ true → formed Beh
 loosen d [] h = h
 loosen d (u ∷ us) h = more-free d (classOf u) us h
 
-plain-takes : (c : ℕ) → special c ≡ false → classOf c ≡ Takes
+pub plain-takes : (c : ℕ) → special c ≡ false → classOf c ≡ Takes
 plain-takes c h =
     λ i.
     cond (no-eq c 40 refl h i) Opens
@@ -139,7 +139,7 @@ no-choice : Some-choice []
 no-choice = (0, empty, one-way nothing)
 
 -- the units of each class
-abbrev Is : Class → ℕ → Type 0
+abbrev pub Is : Class → ℕ → Type 0
 Is Opens u = u ≡ 40
 Is Closes u = u ≡ 41
 Is Parts u = u ≡ 124
@@ -203,7 +203,7 @@ repeats-is u h =
       | inr i ↦ inr (inr (eqb-true u 63 i))
     ]
 
-class-is : (u : ℕ) → Is (classOf u) u
+pub class-is : (u : ℕ) → Is (classOf u) u
 class-is u =
     choose (eqb u 40) Opens _ u (eqb-true u 40) (λ a.
     choose (eqb u 41) Closes _ u (eqb-true u 41) (λ b.

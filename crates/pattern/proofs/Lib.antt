@@ -7,4 +7,5 @@ pub mod Sole
 pub mod Passing
 pub mod Formed
 pub mod Whole
+pub mod Parse
 pub mod Examples

@@ -8,11 +8,10 @@ use native.Mathlib.Nat.{zero-add}
 use native.Mathlib.Omega.{arith}
 use lib.Dec.{eqb, ltb}
 use lib.ListN.{length, drop, getD, take, replicate}
-use Rattle.std.specs.Orderings.{Decides}
 use Rattle.std.proofs.shelf.Lists.{length-drop, append-cancel-left, getD-replicate}
 use Rattle.std.proofs.shelf.Tests.{eqb-true, cases-bool, lt-ltb, le-ltb}
 use Rattle.automaton.specs.declared.Automaton.{Automaton}
-use Rattle.automaton.specs.Language.{Tree, Matches}
+use Rattle.automaton.specs.Language.{Tree}
 use Rattle.automaton.specs.Places.{Has, size, links, Linked, Stands}
 use Rattle.automaton.proofs.Holds.{has-none}
 use Rattle.pattern.specs.Signs.{begins}
@@ -20,7 +19,6 @@ use Rattle.pattern.specs.Grammar.{choice, Spells, opening, closing, Written}
 use Rattle.pattern.specs.Formed.{formed}
 use Rattle.pattern.specs.Reading.{Next, Read, Refused}
 use Rattle.pattern.specs.Judged.{WellFormed, WithinLimits, Accepted}
-use Rattle.pattern.specs.declared.Pattern.{Pattern}
 use Rattle.pattern.specs.declared.reader.Part.{Part}
 use Rattle.pattern.specs.declared.reader.Table.{Table}
 use Rattle.pattern.specs.declared.scan.State.the-variants.{Fresh}
@@ -62,10 +60,10 @@ pub record Body (d : ℕ) (head : Bool) (start : ℕ) (h e : Bool) (t : Tree) (u
   pub spelt : Spells d choice t text
 
 module _ (us : List ℕ) where
-  abbrev from : Bool → ℕ
+  abbrev pub from : Bool → ℕ
   from head = cond head 1 0
 
-  body-of : (d : ℕ) (h e : Bool) (t : Tree) → Written d h e t us → (head : Bool) → head ≡ begins 94 us → Body d head (from head) h e t us
+  pub body-of : (d : ℕ) (h e : Bool) (t : Tree) → Written d h e t us → (head : Bool) → head ≡ begins 94 us → Body d head (from head) h e t us
   body-of d true e t w true is = record { opened = refl; text = w .0; split = ap (drop 1) (w .1); spelt = w .2 }
   body-of d true e t w false is = absurd (false≢true (is ∙ ap (begins 94) (w .1)))
   body-of d false e t w true is =
@@ -146,14 +144,3 @@ module _ (us : List ℕ) where
               leads = leads;
             };
           }
-
--- the answer for a text, for any tree that the pattern spells
-pub told-all : (us ws : List ℕ) (p : Pattern) (b : Bool) → Accepted us p → ((h e : Bool) (t : Tree) → Stands (p .automaton) h e t → Decides b (Matches h e t ws))
-    → WithinLimits us × ((d : ℕ) (h e : Bool) (t : Tree) → Written d h e t us → Decides b (Matches h e t ws))
-told-all us ws p b a f = (
-  (a .head, a .tail, a .tree, a .written, a .few),
-  λ d h e t w.
-      let o = a .only d h e t w in
-      subst (λ z. Decides b (Matches z e t ws)) (sym (o .0))
-      (subst (λ z. Decides b (Matches (a .head) z t ws)) (sym (o .1)) (subst (λ z. Decides b (Matches (a .head) (a .tail) z ws)) (sym (o .2)) (f (a .head) (a .tail) (a .tree) (a .stands)))),
-)

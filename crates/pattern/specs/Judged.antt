@@ -12,6 +12,7 @@ use Rattle.faults.specs.declared.Cause.the-variants.{MalformedPattern, PatternO
 use Rattle.automaton.specs.Language.{Tree, Matches}
 use Rattle.automaton.specs.Places.{size, Stands}
 use Rattle.pattern.specs.Grammar.{Written}
+use Rattle.pattern.specs.Parsed.{patternMatch}
 use Rattle.pattern.specs.declared.Pattern.{Pattern}
 
 -- the units spell a pattern, however deep its brackets and however many its atoms
@@ -40,7 +41,17 @@ abbrev pub Reads : List ℕ → Result Pattern Cause → Type 0
 Reads us (Ok p) = Accepted us p
 Reads us (Err c) = Refusal us c
 
--- the answer for a pattern and a text, by the tree that the pattern spells
+-- the text ws matches the pattern us
+abbrev pub TextMatches : List ℕ → List ℕ → Type 0
+TextMatches us ws = (d : ℕ) × (head : Bool) × (tail : Bool) × (t : Tree) × Written d head tail t us × Matches head tail t ws
+
+-- the answer for a pattern that is accepted: whether the text matches, by any tree that the units spell, of which there is one; and computed
+pub record Answered (us ws : List ℕ) (b : Bool) : Type 0 where
+  pub within : WithinLimits us
+  pub exact : Decides b (TextMatches us ws)
+  pub each : (d : ℕ) (head tail : Bool) (t : Tree) → Written d head tail t us → Decides b (Matches head tail t ws)
+  pub value : b ≡ patternMatch us ws
+
 abbrev pub Decided : List ℕ → List ℕ → Result Bool Cause → Type 0
-Decided us ws (Ok b) = WithinLimits us × ((d : ℕ) (head tail : Bool) (t : Tree) → Written d head tail t us → Decides b (Matches head tail t ws))
+Decided us ws (Ok b) = Answered us ws b
 Decided us ws (Err c) = Refusal us c

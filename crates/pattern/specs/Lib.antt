@@ -5,3 +5,4 @@ pub mod Reading
 pub mod Formed
 pub mod Judged
 pub mod Examples
+pub mod Parsed

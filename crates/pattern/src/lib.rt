@@ -3,12 +3,15 @@
 // A text matches exactly when some run of its neighbouring units belongs to that tree, as the anchors allow.
 ghost use mathlib.Core.Path.{_≡_};
 ghost use mathlib.Core.Bool.{Bool, cond};
+ghost use mathlib.Core.List.{List};
+ghost use Prim.Native.Nat.{ℕ};
 ghost use Rattle.std.specs.Orderings.{Decides};
 ghost use Rattle.units.specs.Units.{units};
 ghost use Rattle.automaton.specs.Language.{Tree, Matches};
 ghost use Rattle.automaton.specs.Places.{Stands};
 ghost use Rattle.pattern.specs.Examples.{Worked};
-ghost use Rattle.pattern.specs.Judged.{Reads, Decided};
+ghost use Rattle.pattern.specs.Judged.{Accepted, Reads, Decided};
+ghost use Rattle.pattern.specs.Parsed.{patternMatch};
 
 mod reader;
 mod scan;
@@ -65,7 +68,8 @@ pub fn read(pattern: &[u8]) -> Result<Pattern, Cause>
 
 // Does the text match the pattern?
 pub fn matches(pattern: &Pattern, text: &[u8]) -> bool
-    ensures { λ r. ⌜ ((head tail : Bool) (t : Tree) → Stands (now (pattern .entry) .automaton) head tail t → Decides r (Matches head tail t (units (now (text .entry))))) ⌝ }
+    ensures exact { λ r. ⌜ ((head tail : Bool) (t : Tree) → Stands (now (pattern .entry) .automaton) head tail t → Decides r (Matches head tail t (units (now (text .entry))))) ⌝ }
+    ensures value { λ r. ⌜ ((us : List ℕ) → Accepted us (now (pattern .entry)) → r ≡ patternMatch us (units (now (text .entry)))) ⌝ }
 {
     automaton::matches(&pattern.automaton, text)
 }

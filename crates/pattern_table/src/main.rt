@@ -1,6 +1,10 @@
 // A table of patterns: each line of the input is a pattern, a text and the verdict expected, parted by tabs.
 // The program prints each verdict, yes, no or the number of the refusal, and at the end how many were not as expected.
 // Lines are UTF-8, and are matched as UTF-16 units.
+ghost use mathlib.Core.Path.{_≡_};
+ghost use Rattle.std.specs.Of.String.{string-bytes};
+ghost use Rattle.std.specs.Vec.{made};
+ghost use Rattle.pattern_table.specs.Verdict.{shown};
 use faults::Cause;
 use std::alloc::AllocError;
 use std::alloc::Global;
@@ -16,7 +20,9 @@ fn unit_bytes(heap: Global, text: &str) -> Result<Vec<u8>, AllocError> {
     Ok(bytes)
 }
 
-fn verdict(heap: Global, answer: Result<bool, Cause>) -> Result<String, AllocError> {
+fn verdict(heap: Global, answer: Result<bool, Cause>) -> Result<String, AllocError>
+    ensures { λ r. ⌜ made r (λ s. string-bytes s ≡ shown answer) ⌝ }
+{
     match answer {
         Ok(true) => String::from_str(heap, "yes"),
         Ok(false) => String::from_str(heap, "no"),
