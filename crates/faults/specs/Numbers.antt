@@ -1,11 +1,16 @@
 -- The number of a cause, and its layer, whose digit is the number's tens digit.
 use Prim.Native.Nat.{ℕ}
 use Rattle.faults.specs.declared.Cause.{Cause}
-use Rattle.faults.specs.declared.Cause.the-variants.{MalformedPattern, PatternOverLimit, NotAPacket, LengthMismatch, TooManyClaims, ClaimPastEnd, UnknownValueType, BooleanOverOne, IllFormedText, UncarriableClaim, BufferTooShort, PacketTooLarge}
+use Rattle.faults.specs.declared.Cause.the-variants.{UnknownCharacter, StringNotClosed, WordTooLong, UnexpectedWord, OverLimit, MalformedPattern, PatternOverLimit, NotAPacket, LengthMismatch, TooManyClaims, ClaimPastEnd, UnknownValueType, BooleanOverOne, IllFormedText, UncarriableClaim, BufferTooShort, PacketTooLarge}
 use Rattle.faults.specs.declared.Layer.{Layer}
-use Rattle.faults.specs.declared.Layer.the-variants.{Checks, Packet, Session, Output}
+use Rattle.faults.specs.declared.Layer.the-variants.{Words, Grammar, Checks, Packet, Session, Output}
 
 abbrev pub numberOf : Cause → ℕ
+numberOf UnknownCharacter = 21
+numberOf StringNotClosed = 22
+numberOf WordTooLong = 23
+numberOf UnexpectedWord = 31
+numberOf OverLimit = 41
 numberOf MalformedPattern = 44
 numberOf PatternOverLimit = 45
 numberOf NotAPacket = 51
@@ -20,6 +25,11 @@ numberOf BufferTooShort = 81
 numberOf PacketTooLarge = 82
 
 abbrev pub layerOf : Cause → Layer
+layerOf UnknownCharacter = Words
+layerOf StringNotClosed = Words
+layerOf WordTooLong = Words
+layerOf UnexpectedWord = Grammar
+layerOf OverLimit = Checks
 layerOf MalformedPattern = Checks
 layerOf PatternOverLimit = Checks
 layerOf NotAPacket = Packet
@@ -34,6 +44,8 @@ layerOf BufferTooShort = Output
 layerOf PacketTooLarge = Output
 
 abbrev pub digitOf : Layer → ℕ
+digitOf Words = 2
+digitOf Grammar = 3
 digitOf Checks = 4
 digitOf Packet = 5
 digitOf Session = 6

@@ -8,6 +8,11 @@ ghost use Rattle.faults.specs.At.{faultAt};
 
 #[derive(Clone, Copy, PartialEq, Eq, Debug)]
 pub enum Cause {
+    UnknownCharacter,
+    StringNotClosed,
+    WordTooLong,
+    UnexpectedWord,
+    OverLimit,
     MalformedPattern,
     PatternOverLimit,
     NotAPacket,
@@ -24,6 +29,8 @@ pub enum Cause {
 
 #[derive(Clone, Copy, PartialEq, Eq, Debug)]
 pub enum Layer {
+    Words,
+    Grammar,
     Checks,
     Packet,
     Session,
@@ -44,6 +51,11 @@ impl Cause {
         ensures { λ r. ⌜ r ≡ numberOf self ⌝ }
     {
         match self {
+            Cause::UnknownCharacter => 21,
+            Cause::StringNotClosed => 22,
+            Cause::WordTooLong => 23,
+            Cause::UnexpectedWord => 31,
+            Cause::OverLimit => 41,
             Cause::MalformedPattern => 44,
             Cause::PatternOverLimit => 45,
             Cause::NotAPacket => 51,
@@ -64,6 +76,11 @@ impl Cause {
         ensures tens { λ r. ⌜ digitOf r ≡ numberOf self / 10 ⌝ }
     {
         match self {
+            Cause::UnknownCharacter => Layer::Words,
+            Cause::StringNotClosed => Layer::Words,
+            Cause::WordTooLong => Layer::Words,
+            Cause::UnexpectedWord => Layer::Grammar,
+            Cause::OverLimit => Layer::Checks,
             Cause::MalformedPattern => Layer::Checks,
             Cause::PatternOverLimit => Layer::Checks,
             Cause::NotAPacket => Layer::Packet,
@@ -85,6 +102,8 @@ impl Layer {
         ensures { λ r. ⌜ r ≡ digitOf self ⌝ }
     {
         match self {
+            Layer::Words => 2,
+            Layer::Grammar => 3,
             Layer::Checks => 4,
             Layer::Packet => 5,
             Layer::Session => 6,

@@ -1,0 +1,7 @@
+pub mod Carriable
+pub mod Format
+pub mod Judge
+pub mod Held
+pub mod Records
+pub mod Exact
+pub mod Examples
