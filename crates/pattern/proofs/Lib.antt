@@ -8,4 +8,5 @@ pub mod Passing
 pub mod Formed
 pub mod Whole
 pub mod Parse
+pub mod Caused
 pub mod Examples

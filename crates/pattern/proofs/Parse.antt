@@ -117,7 +117,7 @@ closed : (e : Bool) (w : Option Tree) (q t : Tree) → joined w q ≡ t → pars
 closed true w q t h = ap (λ z. Some (true, z)) h
 closed false w q t h = ap (λ z. Some (false, z)) h
 
-told-whole : (us : List ℕ) (d : ℕ) (h e : Bool) (t : Tree) → Written d h e t us → (begins 94 us ≡ h) × (whole us ≡ Some (e, t))
+pub told-whole : (us : List ℕ) (d : ℕ) (h e : Bool) (t : Tree) → Written d h e t us → (begins 94 us ≡ h) × (whole us ≡ Some (e, t))
 told-whole us d h e t w =
     let b = body-of us d h e t w (begins 94 us) refl in
     let r = parse-choice (b .spelt) [] (closing e) (no-repeat-closing e) in

@@ -34,7 +34,7 @@ no-head d (u ∷ us) h =
       | inr n ↦ n
     ]
 
-closes : (e : Bool) → formed Fresh 0 (closing e) ≡ true
+pub closes : (e : Bool) → formed Fresh 0 (closing e) ≡ true
 closes true = refl
 closes false = refl
 
@@ -72,7 +72,7 @@ module _ (us : List ℕ) where
   body-of d false e t w false is = record { opened = refl; text = w .0; split = w .1; spelt = w .2 }
 
   -- the whole from what stands behind the opening anchor
-  whole-of : (head : Bool) → head ≡ begins 94 us → (s : List ℕ) → drop (from head) us ≡ s → us ≡ opening head ++ s
+  pub whole-of : (head : Bool) → head ≡ begins 94 us → (s : List ℕ) → drop (from head) us ≡ s → us ≡ opening head ++ s
   whole-of true is s e = stood us 0 94 (sym is) ∙ ap (λ z. 94 ∷ z) e
   whole-of false is s e = e
 

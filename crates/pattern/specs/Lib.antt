@@ -6,3 +6,4 @@ pub mod Formed
 pub mod Judged
 pub mod Examples
 pub mod Parsed
+pub mod Caused
