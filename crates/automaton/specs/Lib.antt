@@ -1,0 +1,4 @@
+pub mod Language
+pub mod Places
+pub mod Run
+pub mod Made

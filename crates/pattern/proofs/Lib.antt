@@ -1,0 +1,12 @@
+pub mod Looks
+pub mod Grow
+pub mod Onward
+pub mod Build
+pub mod Runs
+pub mod Sole
+pub mod Passing
+pub mod Formed
+pub mod Whole
+pub mod Parse
+pub mod Caused
+pub mod Examples
