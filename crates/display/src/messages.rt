@@ -18,6 +18,11 @@ pub fn words(cause: Cause) -> &'static str
     ensures { λ r. ⌜ now r ≡ wordsOf cause ⌝ }
 {
     match cause {
+        Cause::UnknownCharacter => "a character that begins no word",
+        Cause::StringNotClosed => "a string that is not closed",
+        Cause::WordTooLong => "a word that is too long",
+        Cause::UnexpectedWord => "a word that is not expected there",
+        Cause::OverLimit => "more than a limit allows",
         Cause::NotAPacket => "not a packet of version 1",
         Cause::LengthMismatch => "the length is not that of the bytes present",
         Cause::TooManyClaims => "more than 256 claims",

@@ -1,11 +1,16 @@
 -- The number of a cause, and its layer, whose digit is the number's tens digit.
 use Prim.Native.Nat.{ℕ}
 use Rattle.faults.specs.declared.Cause.{Cause}
-use Rattle.faults.specs.declared.Cause.the-variants.{NotAPacket, LengthMismatch, TooManyClaims, ClaimPastEnd, UnknownValueType, BooleanOverOne, IllFormedText, UncarriableClaim, BufferTooShort, PacketTooLarge}
+use Rattle.faults.specs.declared.Cause.the-variants.{UnknownCharacter, StringNotClosed, WordTooLong, UnexpectedWord, OverLimit, NotAPacket, LengthMismatch, TooManyClaims, ClaimPastEnd, UnknownValueType, BooleanOverOne, IllFormedText, UncarriableClaim, BufferTooShort, PacketTooLarge}
 use Rattle.faults.specs.declared.Layer.{Layer}
-use Rattle.faults.specs.declared.Layer.the-variants.{Packet, Session, Output}
+use Rattle.faults.specs.declared.Layer.the-variants.{Words, Grammar, Checks, Packet, Session, Output}
 
 abbrev pub numberOf : Cause → ℕ
+numberOf UnknownCharacter = 21
+numberOf StringNotClosed = 22
+numberOf WordTooLong = 23
+numberOf UnexpectedWord = 31
+numberOf OverLimit = 41
 numberOf NotAPacket = 51
 numberOf LengthMismatch = 52
 numberOf TooManyClaims = 53
@@ -18,6 +23,11 @@ numberOf BufferTooShort = 81
 numberOf PacketTooLarge = 82
 
 abbrev pub layerOf : Cause → Layer
+layerOf UnknownCharacter = Words
+layerOf StringNotClosed = Words
+layerOf WordTooLong = Words
+layerOf UnexpectedWord = Grammar
+layerOf OverLimit = Checks
 layerOf NotAPacket = Packet
 layerOf LengthMismatch = Packet
 layerOf TooManyClaims = Packet
@@ -30,6 +40,9 @@ layerOf BufferTooShort = Output
 layerOf PacketTooLarge = Output
 
 abbrev pub digitOf : Layer → ℕ
+digitOf Words = 2
+digitOf Grammar = 3
+digitOf Checks = 4
 digitOf Packet = 5
 digitOf Session = 6
 digitOf Output = 8

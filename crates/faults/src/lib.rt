@@ -8,6 +8,11 @@ ghost use Rattle.faults.specs.At.{faultAt};
 
 #[derive(Clone, Copy, PartialEq, Eq, Debug)]
 pub enum Cause {
+    UnknownCharacter,
+    StringNotClosed,
+    WordTooLong,
+    UnexpectedWord,
+    OverLimit,
     NotAPacket,
     LengthMismatch,
     TooManyClaims,
@@ -22,6 +27,9 @@ pub enum Cause {
 
 #[derive(Clone, Copy, PartialEq, Eq, Debug)]
 pub enum Layer {
+    Words,
+    Grammar,
+    Checks,
     Packet,
     Session,
     Output,
@@ -41,6 +49,11 @@ impl Cause {
         ensures { λ r. ⌜ r ≡ numberOf self ⌝ }
     {
         match self {
+            Cause::UnknownCharacter => 21,
+            Cause::StringNotClosed => 22,
+            Cause::WordTooLong => 23,
+            Cause::UnexpectedWord => 31,
+            Cause::OverLimit => 41,
             Cause::NotAPacket => 51,
             Cause::LengthMismatch => 52,
             Cause::TooManyClaims => 53,
@@ -59,6 +72,11 @@ impl Cause {
         ensures tens { λ r. ⌜ digitOf r ≡ numberOf self / 10 ⌝ }
     {
         match self {
+            Cause::UnknownCharacter => Layer::Words,
+            Cause::StringNotClosed => Layer::Words,
+            Cause::WordTooLong => Layer::Words,
+            Cause::UnexpectedWord => Layer::Grammar,
+            Cause::OverLimit => Layer::Checks,
             Cause::NotAPacket => Layer::Packet,
             Cause::LengthMismatch => Layer::Packet,
             Cause::TooManyClaims => Layer::Packet,
@@ -78,6 +96,9 @@ impl Layer {
         ensures { λ r. ⌜ r ≡ digitOf self ⌝ }
     {
         match self {
+            Layer::Words => 2,
+            Layer::Grammar => 3,
+            Layer::Checks => 4,
             Layer::Packet => 5,
             Layer::Session => 6,
             Layer::Output => 8,

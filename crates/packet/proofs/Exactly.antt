@@ -20,6 +20,7 @@ use Rattle.packet.specs.Format.{Bytes}
 use Rattle.packet.specs.Judge.{Verdict, followed, judge, walk, counted, claimsIn}
 use Rattle.packet.specs.Records.{recordsFrom}
 use Rattle.packet.proofs.Claims.{judge-read, judge-carries}
+use Rattle.packet.proofs.Refusing.{told}
 use Rattle.packet.proofs.Standing.{packet-stands}
 
 -- what a counted verdict tells
@@ -40,7 +41,7 @@ exact-verdict bs (Ok cs) h e =
       only = λ ds d. let is : _≡_ {A = Verdict} (Ok ds) (Ok cs) = sym (judge-carries bs ds d) ∙ e in cc;
       stands = λ rules. ap (λ v. claimsOf rules bs (recordsFrom 3 (claimsIn v))) e ∙ packet-stands rules bs cs (carries .spelt);
     }
-exact-verdict bs (Err f) h e = λ cs c. let is = sym e ∙ judge-carries bs cs c in let z : _≡_ {A = ℕ} 0 1 = cc in omega arith
+exact-verdict bs (Err f) h e = record { none = λ cs c. let is = sym e ∙ judge-carries bs cs c in let z : _≡_ {A = ℕ} 0 1 = cc in omega arith; fault = told bs h f e }
 
 pub exact : (bs : List ℕ) (o : Option Fault) → ((i : ℕ) → getD bs i 0 < 256) → o ≡ faultIn (judge bs) → Exact bs o
 exact bs o h e = subst (Exact bs) (sym e) (exact-verdict bs (judge bs) (all-from-getD (λ b. b < 256) bs 0 (λ i _. h i)) refl)

@@ -4,4 +4,5 @@ pub mod FieldAt
 pub mod Steps
 pub mod Walks
 pub mod Standing
+pub mod Refusing
 pub mod Exactly

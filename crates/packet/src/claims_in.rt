@@ -16,6 +16,8 @@ use faults::Cause;
 use faults::Fault;
 use units::is_well_formed;
 
+const MAX_CLAIMS: u16 = 256;
+
 // The place behind a claim.
 pub fn past(claim: Claim) -> usize
     ensures { λ r. ⌜ r ≡ pastClaim claim ⌝ }
@@ -78,7 +80,7 @@ fn check_claims(bytes: &[u8]) -> Result<u16, Fault>
     let mut at = 3;
     let mut count = 0;
     while at < bytes.len() {
-        if count == 256 {
+        if count == MAX_CLAIMS {
             return Err(Fault::at(Cause::TooManyClaims, at as u16));
         }
         match claim_in(bytes, at) {

@@ -35,7 +35,8 @@ pub fn unit_at(text: &[u8], i: usize) -> Option<u16>
     }
 }
 
-fn unit_or_zero(text: &[u8], i: usize) -> u16
+// The unit of a number, or 0000 past the end.
+pub fn unit_or_zero(text: &[u8], i: usize) -> u16
     ensures { λ r. ⌜ r ≡ getD (units (now (text .entry))) i 0 ⌝ }
 {
     if i < count(text) { unit(text, i) } else { 0 }

@@ -61,8 +61,14 @@ module _ (rules packet′ : List ℕ) (cs : List Claim) where
       let l = ap length e in
       omega (arith, length-append (shownBody rules packet′ (take i cs)) (shownBody rules packet′ (drop i cs)))
 
-  pub body-all : (i : ℕ) → length cs ≤ i → shownBody rules packet′ (take i cs) ≡ shownBody rules packet′ cs
+  body-all : (i : ℕ) → length cs ≤ i → shownBody rules packet′ (take i cs) ≡ shownBody rules packet′ cs
   body-all i h = ap (shownBody rules packet′) (take-all i cs h)
+
+  pub size-all : (i n : ℕ) → length cs ≤ i → n ≡ length (shownBody rules packet′ (take i cs)) → n ≡ length (shownBody rules packet′ cs)
+  size-all i n h e = e ∙ ap length (body-all i h)
+
+  pub written-all : (i : ℕ) (old p : List ℕ) → length cs ≤ i → p ≡ written old 3 (shownBody rules packet′ (take i cs)) → p ≡ written old 3 (shownBody rules packet′ cs)
+  written-all i old p h e = e ∙ ap (written old 3) (body-all i h)
 
   module _ (i : ℕ) (c : Claim) (e : Some c ≡ nth cs i) where
     body-more : shownBody rules packet′ (take (i + 1) cs) ≡ shownBody rules packet′ (take i cs) ++ encode (shownClaim rules packet′ c)

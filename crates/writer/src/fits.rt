@@ -18,11 +18,13 @@ use claims::value_type;
 use units::count;
 use units::is_well_formed;
 
+const MAX_UNITS: usize = 255;
+
 // At most 255 units, and well formed.
 fn is_short(text: &[u8]) -> bool
     ensures { λ r. ⌜ Decides r (Short (units (now (text .entry)))) ⌝ }
 {
-    count(text) <= 255 && is_well_formed(text)
+    count(text) <= MAX_UNITS && is_well_formed(text)
 }
 
 fn text_fits(text: Text, rules: &[u8], packet: &[u8]) -> bool

@@ -16,7 +16,7 @@ pub struct Checked<'a> {
 
 impl<'a> Packet<'a> {
     // The packet that carries no claim.
-    pub fn empty() -> Packet<'a>
+    fn empty() -> Packet<'a>
         ensures { λ r. ⌜ now (r .bytes) ≡ 1 ∷ 0 ∷ 0 ∷ [] ⌝ }
     {
         Packet {

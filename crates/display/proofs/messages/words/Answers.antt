@@ -31,3 +31,18 @@ returns-in-BufferTooShort c = sym (ap wordsOf (c .in-BufferTooShort .is))
 
 pub returns-in-PacketTooLarge : need.returns-in-PacketTooLarge
 returns-in-PacketTooLarge c = sym (ap wordsOf (c .in-PacketTooLarge .is))
+
+pub returns-in-UnknownCharacter : need.returns-in-UnknownCharacter
+returns-in-UnknownCharacter c = sym (ap wordsOf (c .in-UnknownCharacter .is))
+
+pub returns-in-StringNotClosed : need.returns-in-StringNotClosed
+returns-in-StringNotClosed c = sym (ap wordsOf (c .in-StringNotClosed .is))
+
+pub returns-in-WordTooLong : need.returns-in-WordTooLong
+returns-in-WordTooLong c = sym (ap wordsOf (c .in-WordTooLong .is))
+
+pub returns-in-UnexpectedWord : need.returns-in-UnexpectedWord
+returns-in-UnexpectedWord c = sym (ap wordsOf (c .in-UnexpectedWord .is))
+
+pub returns-in-OverLimit : need.returns-in-OverLimit
+returns-in-OverLimit c = sym (ap wordsOf (c .in-OverLimit .is))

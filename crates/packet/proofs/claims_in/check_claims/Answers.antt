@@ -5,9 +5,9 @@ use Rattle.packet.specs.Held.{heldClaim}
 use Rattle.packet.proofs.Walks.{check-full, check-fails, check-goes, check-ends}
 use Rattle.packet.proofs.claims_in.check_claims.Needs as need
 
-pub returns-then-count-eq256 : need.returns-then-count-eq256
-returns-then-count-eq256 c =
-    ap Err (c .at .ensures) ∙ sym (check-full (c .args .bytes .now) (c .loop-at .at) (c .loop-at .count) (c .loop-at-test .taken) (c .if-count-eq256 .taken)) ∙ c .loop-at .inv .1
+pub returns-then-count-eq-MAX-CLAIMS : need.returns-then-count-eq-MAX-CLAIMS
+returns-then-count-eq-MAX-CLAIMS c =
+    ap Err (c .at .ensures) ∙ sym (check-full (c .args .bytes .now) (c .loop-at .at) (c .loop-at .count) (c .loop-at-test .taken) (c .if-count-eq-MAX-CLAIMS .taken)) ∙ c .loop-at .inv .1
 
 pub returns-in-Err : need.returns-in-Err
 returns-in-Err c =

@@ -1,4 +1,4 @@
-use mathlib.Core.Path.{refl, subst, ap, _∙_}
+use mathlib.Core.Path.{refl, subst}
 use Prim.Native.Nat.{_≤_}
 use native.Mathlib.Omega.{arith}
 use lib.ListN.{length}
@@ -6,7 +6,7 @@ use Rattle.std.proofs.shelf.Lists.{take-all}
 use Rattle.std.proofs.shelf.Ways.{not-from-decides}
 use Rattle.std.specs.shelf.Lists.{All}
 use Rattle.writer.specs.Shown.{Writable}
-use Rattle.writer.proofs.BodyBytes.{all-found, not-found, body-all, size-more, writable-more}
+use Rattle.writer.proofs.BodyBytes.{all-found, not-found, size-all, size-more, writable-more}
 use Rattle.writer.proofs.bodies.body_size.Needs as need
 
 pub returns-in-rest : need.returns-in-rest
@@ -31,5 +31,5 @@ returns g c =
     let cs = g .S·Source .list (c .args .source .now) in
     let all : length cs ≤ c .loop-i .i = omega (arith, c .count-i-end .ensures .value) in (
       subst (All (Writable (c .args .rules .now) (c .args .packet .now))) (take-all (c .loop-i .i) cs all) (c .loop-i .inv .1),
-      c .loop-i .inv .0 ∙ ap length (body-all (c .args .rules .now) (c .args .packet .now) cs (c .loop-i .i) all),
+      size-all (c .args .rules .now) (c .args .packet .now) cs (c .loop-i .i) (c .loop-i .sum) all (c .loop-i .inv .0),
     )

@@ -1,9 +1,7 @@
-use mathlib.Core.Path.{ap, _∙_}
 use Prim.Native.Nat.{_+_}
 use native.Mathlib.Omega.{arith}
 use Rattle.writer.specs.Shown.{Writable}
-use Rattle.writer.specs.Writing.{written}
-use Rattle.writer.proofs.BodyBytes.{all-found, not-found, body-all, body-front, size-more, written-next}
+use Rattle.writer.proofs.BodyBytes.{all-found, not-found, written-all, body-front, size-more, written-next}
 use Rattle.writer.proofs.Records.{writable-parts}
 use Rattle.writer.proofs.bodies.write_body.Needs as need
 
@@ -32,5 +30,5 @@ loop-i-again g c =
 
 pub returns : need.returns
 returns g c =
-    let cs = g .S·Source .list (c .args .source .now) in
-    c .loop-i .inv .1 ∙ ap (written (c .args .out .now) 3) (body-all (c .args .rules .now) (c .args .packet .now) cs (c .loop-i .i) (omega (arith, c .count-i-end .ensures .value)))
+    written-all (c .args .rules .now) (c .args .packet .now) (g .S·Source .list (c .args .source .now)) (c .loop-i .i) (c .args .out .now) (c .loop-i .out)
+    (omega (arith, c .count-i-end .ensures .value)) (c .loop-i .inv .1)

@@ -1,4 +1,4 @@
-use mathlib.Core.Path.{refl, sym, _∙_}
+use mathlib.Core.Path.{refl, _∙_}
 use native.Mathlib.Omega.{arith}
 use Rattle.packet.specs.Judge.{judge, claimsIn}
 use Rattle.packet.proofs.Standing.{length-records}
@@ -10,4 +10,4 @@ returns c =
     let bs = c .args .self .now .bytes .now in
     let n = c .from .ensures ∙ c .args .self .now .counted in
     let few = judge-few bs (c .args .self .now .accepted) in
-    record { value = n ∙ sym (length-records 3 (claimsIn (judge bs))); few = omega (arith, n, few); same = refl }
+    record { value = omega (arith, n, length-records 3 (claimsIn (judge bs))); few = omega (arith, n, few); same = refl }
