@@ -9,7 +9,7 @@ use Rattle.automaton.specs.declared.Atom.the-variants.{Plain}
 use Rattle.automaton.specs.Language.{one, either, followed}
 use Rattle.automaton.proofs.Made.{computed}
 use Rattle.pattern.specs.Grammar.{choice, sequence, Spells, one-way, or-way, nothing, and-then, once, starred, unit, bracketed}
-use Rattle.pattern.specs.Examples.{alone, sample, Worked}
+use Rattle.pattern.specs.Examples.{alone, sample, Worked, Computed}
 
 spelt-a : Spells 7 sequence (alone (one (Plain 97))) (codes "a")
 spelt-a = and-then [] (codes "a") refl nothing (once (unit 97 refl))
@@ -26,6 +26,7 @@ worked = (
   (codes "(a|bc)*", refl, spelt),
   computed true true sample (omega arith) (codes "BCA") .0 refl,
   λ m. false≢true (computed true true sample (omega arith) (codes "ab") .1 m),
-  refl,
-  refl,
 )
+
+pub all-computed : Computed
+all-computed = (refl, refl, refl, refl, refl, refl, refl, refl, refl, refl, refl)

@@ -9,7 +9,8 @@ ghost use Rattle.std.specs.Orderings.{Decides};
 ghost use Rattle.units.specs.Units.{units};
 ghost use Rattle.automaton.specs.Language.{Tree, Matches};
 ghost use Rattle.automaton.specs.Places.{Stands};
-ghost use Rattle.pattern.specs.Examples.{Worked};
+ghost use Rattle.pattern.specs.Caused.{causeOf, patternCause, patternAnswer};
+ghost use Rattle.pattern.specs.Examples.{Worked, Computed};
 ghost use Rattle.pattern.specs.Judged.{Accepted, Reads, Decided};
 ghost use Rattle.pattern.specs.Parsed.{patternMatch};
 
@@ -38,7 +39,8 @@ fn behind_head(head: bool) -> usize
 // Reads a pattern. Whether it is well formed is judged first, at any depth, so that only a well-formed one can be
 // over a limit.
 pub fn read(pattern: &[u8]) -> Result<Pattern, Cause>
-    ensures { λ r. ⌜ Reads (units (now (pattern .entry))) r ⌝ }
+    ensures exact { λ r. ⌜ Reads (units (now (pattern .entry))) r ⌝ }
+    ensures value { λ r. ⌜ causeOf r ≡ patternCause (units (now (pattern .entry))) ⌝ }
 {
     let head = signs::stands(pattern, 0, signs::HEAD);
     let start = behind_head(head);
@@ -76,15 +78,19 @@ pub fn matches(pattern: &Pattern, text: &[u8]) -> bool
 
 // Reads the pattern and matches the text against it.
 pub fn decide(pattern: &[u8], text: &[u8]) -> Result<bool, Cause>
-    ensures { λ r. ⌜ Decided (units (now (pattern .entry))) (units (now (text .entry))) r ⌝ }
+    ensures exact { λ r. ⌜ Decided (units (now (pattern .entry))) (units (now (text .entry))) r ⌝ }
+    ensures value { λ r. ⌜ r ≡ patternAnswer (units (now (pattern .entry))) (units (now (text .entry))) ⌝ }
 {
-    let p = read(pattern)?;
-    Ok(matches(&p, text))
+    match read(pattern) {
+        Ok(p) => Ok(matches(&p, text)),
+        Err(cause) => Err(cause),
+    }
 }
 
-// The worked pattern as a theorem: `^(a|bc)*$` spells its tree, BCA matches it, and ab does not.
-pub fn worked_example_stands() -> u8
-    ensures { λ _. ⌜ Worked ⌝ }
+// The worked patterns as a theorem: `^(a|bc)*$` spells its tree, BCA matches it, and ab does not; others are computed.
+pub fn worked_examples_stand() -> u8
+    ensures worked { λ _. ⌜ Worked ⌝ }
+    ensures computed { λ _. ⌜ Computed ⌝ }
 {
     0
 }
