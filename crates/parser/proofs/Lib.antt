@@ -1,4 +1,2 @@
-pub mod Short
-pub mod Expecting
-pub mod Many
+pub mod Listing
 pub mod Wholly

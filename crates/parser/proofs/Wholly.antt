@@ -16,11 +16,11 @@ use Rattle.grammar.specs.Readers.{Got, got, useless, past}
 use Rattle.grammar.specs.Tree as T
 use Rattle.grammar.specs.Whole.{Parsed, rules, fault, whole, parse}
 use Rattle.parser.specs.Parsed.{parsedOf}
-use Rattle.parser.specs.Reading.{Reading, stopped, faultOf, isNone}
+use Rattle.cursor.specs.Reading.{Reading, stopped, faultOf, isNone}
 use Rattle.parser.specs.Shown.{rulesOf}
 use Rattle.parser.specs.declared.tree.Rules.{Rules}
-use Rattle.parser.specs.declared.tree.Stop.{Stop}
-use Rattle.parser.specs.declared.tree.Stop.the-variants.{Useless, Past}
+use Rattle.cursor.specs.declared.pieces.Stop.{Stop}
+use Rattle.cursor.specs.declared.pieces.Stop.the-variants.{Useless, Past}
 
 pub record Parses (us : List ℕ) (r : Result Rules Fault) : Type 0 where
   pub value : parsedOf us r ≡ parse us

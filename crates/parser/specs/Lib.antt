@@ -1,4 +1,2 @@
 pub mod Shown
-pub mod Ahead
-pub mod Reading
 pub mod Parsed

@@ -1,20 +1,11 @@
-// Rules read from a rule text: one function for each production, each equal to its definition.
-// A rule is a plain value of places in the text.
-mod ahead;
-mod parser;
+// The rules of a rule text, read as the grammar derives them.
+// A text is accepted exactly when it is derivable within the limits, and refused exactly where it stops.
 mod parses;
+mod rules;
 mod tree;
 
-pub use parser::Parser;
 pub use parses::parse;
-pub use tree::Action;
-pub use tree::Cond;
-pub use tree::Conds;
-pub use tree::Expr;
-pub use tree::Oper;
-pub use tree::Piece;
+pub use rules::begins_rule;
+pub use rules::rule;
 pub use tree::Rule;
 pub use tree::Rules;
-pub use tree::Selection;
-pub use tree::Selections;
-pub use tree::Stop;
