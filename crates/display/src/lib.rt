@@ -8,9 +8,6 @@ mod tables;
 mod tests;
 mod texts;
 
-pub use letters::hex_letter;
-pub use letters::is_hidden;
-pub use letters::joined;
 pub use messages::accepted;
 pub use messages::misplaced;
 pub use messages::refused;
