@@ -1,9 +1,9 @@
 -- The number of a cause, and its layer, whose digit is the number's tens digit.
 use Prim.Native.Nat.{ℕ}
 use Rattle.faults.specs.declared.Cause.{Cause}
-use Rattle.faults.specs.declared.Cause.the-variants.{NotAPacket, LengthMismatch, TooManyClaims, ClaimPastEnd, UnknownValueType, BooleanOverOne, IllFormedText, UncarriableClaim, BufferTooShort, PacketTooLarge}
+use Rattle.faults.specs.declared.Cause.the-variants.{NotAPacket, LengthMismatch, TooManyClaims, ClaimPastEnd, UnknownValueType, BooleanOverOne, IllFormedText, UncarriableClaim, BufferTooShort, PacketTooLarge, StoreFull, CutOutside}
 use Rattle.faults.specs.declared.Layer.{Layer}
-use Rattle.faults.specs.declared.Layer.the-variants.{Packet, Session, Output}
+use Rattle.faults.specs.declared.Layer.the-variants.{Packet, Session, Output, Store}
 
 abbrev pub numberOf : Cause → ℕ
 numberOf NotAPacket = 51
@@ -16,6 +16,8 @@ numberOf IllFormedText = 57
 numberOf UncarriableClaim = 64
 numberOf BufferTooShort = 81
 numberOf PacketTooLarge = 82
+numberOf StoreFull = 91
+numberOf CutOutside = 92
 
 abbrev pub layerOf : Cause → Layer
 layerOf NotAPacket = Packet
@@ -28,8 +30,11 @@ layerOf IllFormedText = Packet
 layerOf UncarriableClaim = Session
 layerOf BufferTooShort = Output
 layerOf PacketTooLarge = Output
+layerOf StoreFull = Store
+layerOf CutOutside = Store
 
 abbrev pub digitOf : Layer → ℕ
 digitOf Packet = 5
 digitOf Session = 6
 digitOf Output = 8
+digitOf Store = 9
