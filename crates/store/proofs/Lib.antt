@@ -1,0 +1,4 @@
+mod Nths
+mod Granted
+mod Laid
+mod Fronts
