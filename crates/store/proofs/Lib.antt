@@ -1,4 +1,5 @@
-mod Nths
+pub mod Nths
 mod Granted
+mod Slots
 mod Laid
 mod Fronts

@@ -1,6 +1,7 @@
 use native.Mathlib.Omega.{arith}
 use mathlib.Core.Path.{_≡_, refl, ap, _∙_}
 use mathlib.Core.List.{[], _∷_, _++_}
+use Prim.Native.Nat.{min}
 use lib.ListN.{length, length-append, length-take}
 use Rattle.store.specs.Owned.{owned}
 use Rattle.store.specs.Overlays.{laidOver}
@@ -26,8 +27,7 @@ returns g c =
     let o = owned (s .own) in
     let x = c .args .claim in
     let k = c .push .last .self in
-    let fits = k .fits in
-    let grown = length-take (k .len) (k .slots) in
+    let grown = length-take (min (k .len) 128) (k .slots) in
     let len = laid-length b o (omega arith) in
     let e : owned k ≡ o ++ (x ∷ []) = pushed o (owned k) x 128 (c .push .result) (omega arith) (c .push .ensures .full) (c .push .ensures .after) in
     record {

@@ -1,7 +1,7 @@
 use native.Mathlib.Omega.{arith}
 use mathlib.Core.Logic.{⊎-elim}
 use mathlib.Core.Path.{_≡_, refl, ap, _∙_}
-use Prim.Native.Nat.{_-_}
+use Prim.Native.Nat.{_-_, min}
 use lib.ListN.{length, take, length-take}
 use Rattle.store.specs.Owned.{owned}
 use Rattle.store.specs.Overlays.{laidOver}
@@ -13,8 +13,7 @@ pub returns-then-n-below : need.returns-then-n-below
 returns-then-n-below g c =
     let s = c .args .self .now in
     let w = s .own in
-    let fits = w .fits in
-    let len = length-take (w .len) (w .slots) in
+    let len = length-take (min (w .len) 128) (w .slots) in
     record {
       cases = ((λ low high. ⊎-elim (λ h. omega arith) (λ h. omega arith) (c .then-n-below .either)), c .at .ensures, refl);
       bounds = laid-bounds (g .S·Source .list (s .base)) (owned w) (omega arith) (omega arith);
@@ -28,8 +27,7 @@ returns g c =
     let o = owned (s .own) in
     let k = c .cut .last .self in
     let n = c .args .n in
-    let fits = k .fits in
-    let left = length-take (k .len) (k .slots) in
+    let left = length-take (min (k .len) 128) (k .slots) in
     let len = laid-length b o (omega arith) in
     let at : c .count-below .result ≡ length b = omega arith in
     let e : owned k ≡ take (n - c .count-below .result) o =

@@ -1,6 +1,13 @@
-use borrow.Author.Needs.{needs}
-use Rattle.std.proofs.shelf.Lists.{take-more-set}
+use mathlib.Core.Path.{sym}
+use native.Mathlib.Omega.{arith}
+use Rattle.std.proofs.shelf.Tests.{lt-ltb}
+use Rattle.store.proofs.Slots.{slots-more}
 use Rattle.store.proofs.own.Own.push.Needs as need
 
 pub returns : need.returns
-returns c = search (needs, take-more-set)
+returns c =
+    let w = c .args .self .now in
+    record {
+      full = sym (lt-ltb _ 128 (omega (arith, c .len-at .ensures .value)));
+      after = slots-more (w .slots) (w .len) (c .len-at .result) (c .args .claim) (c .len-at .ensures .wide) (c .len-at .ensures .value) (omega arith);
+    }
