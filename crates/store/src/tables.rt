@@ -39,7 +39,11 @@ pub impl<'a> Source for Table<'a> as TableSource {
     }
 
     fn claim_at(&self, n: usize) -> Option<Claim> {
-        if n < 512 { self.held.get(n) } else { None }
+        if n < self.count() {
+            self.held.get(n)
+        } else {
+            None
+        }
     }
 }
 
