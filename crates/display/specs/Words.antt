@@ -3,7 +3,7 @@ use mathlib.Core.List.{List}
 use Prim.Native.Nat.{ℕ}
 use lib.Chars.{codes}
 use Rattle.faults.specs.declared.Cause.{Cause}
-use Rattle.faults.specs.declared.Cause.the-variants.{UnknownCharacter, StringNotClosed, WordTooLong, UnexpectedWord, OverLimit, MalformedPattern, PatternOverLimit, NotAPacket, LengthMismatch, TooManyClaims, ClaimPastEnd, UnknownValueType, BooleanOverOne, IllFormedText, UncarriableClaim, BufferTooShort, PacketTooLarge}
+use Rattle.faults.specs.declared.Cause.the-variants.{UnknownCharacter, StringNotClosed, WordTooLong, UnexpectedWord, OverLimit, MalformedPattern, PatternOverLimit, NotAPacket, LengthMismatch, TooManyClaims, ClaimPastEnd, UnknownValueType, BooleanOverOne, IllFormedText, UncarriableClaim, BufferTooShort, PacketTooLarge, StoreFull, CutOutside}
 
 abbrev pub wordsOf : Cause → List ℕ
 wordsOf UnknownCharacter = codes "no word begins with this character"
@@ -23,3 +23,5 @@ wordsOf IllFormedText = codes "a text with a unit 0000 or half of a surrogate pa
 wordsOf UncarriableClaim = codes "a claim that a packet cannot carry"
 wordsOf BufferTooShort = codes "the buffer is too short"
 wordsOf PacketTooLarge = codes "more than a packet carries"
+wordsOf StoreFull = codes "the store is full"
+wordsOf CutOutside = codes "a cut outside floor and length"

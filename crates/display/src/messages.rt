@@ -35,6 +35,8 @@ pub fn words(cause: Cause) -> &'static str
         Cause::UncarriableClaim => "a claim that a packet cannot carry",
         Cause::BufferTooShort => "the buffer is too short",
         Cause::PacketTooLarge => "more than a packet carries",
+        Cause::StoreFull => "the store is full",
+        Cause::CutOutside => "a cut outside floor and length",
     }
 }
 

@@ -1,9 +1,9 @@
 -- The number of a cause, and its layer, whose digit is the number's tens digit.
 use Prim.Native.Nat.{ℕ}
 use Rattle.faults.specs.declared.Cause.{Cause}
-use Rattle.faults.specs.declared.Cause.the-variants.{UnknownCharacter, StringNotClosed, WordTooLong, UnexpectedWord, OverLimit, MalformedPattern, PatternOverLimit, NotAPacket, LengthMismatch, TooManyClaims, ClaimPastEnd, UnknownValueType, BooleanOverOne, IllFormedText, UncarriableClaim, BufferTooShort, PacketTooLarge}
+use Rattle.faults.specs.declared.Cause.the-variants.{UnknownCharacter, StringNotClosed, WordTooLong, UnexpectedWord, OverLimit, MalformedPattern, PatternOverLimit, NotAPacket, LengthMismatch, TooManyClaims, ClaimPastEnd, UnknownValueType, BooleanOverOne, IllFormedText, UncarriableClaim, BufferTooShort, PacketTooLarge, StoreFull, CutOutside}
 use Rattle.faults.specs.declared.Layer.{Layer}
-use Rattle.faults.specs.declared.Layer.the-variants.{Words, Grammar, Checks, Packet, Session, Output}
+use Rattle.faults.specs.declared.Layer.the-variants.{Words, Grammar, Checks, Packet, Session, Output, Store}
 
 abbrev pub numberOf : Cause → ℕ
 numberOf UnknownCharacter = 21
@@ -23,6 +23,8 @@ numberOf IllFormedText = 57
 numberOf UncarriableClaim = 64
 numberOf BufferTooShort = 81
 numberOf PacketTooLarge = 82
+numberOf StoreFull = 91
+numberOf CutOutside = 92
 
 abbrev pub layerOf : Cause → Layer
 layerOf UnknownCharacter = Words
@@ -42,6 +44,8 @@ layerOf IllFormedText = Packet
 layerOf UncarriableClaim = Session
 layerOf BufferTooShort = Output
 layerOf PacketTooLarge = Output
+layerOf StoreFull = Store
+layerOf CutOutside = Store
 
 abbrev pub digitOf : Layer → ℕ
 digitOf Words = 2
@@ -50,3 +54,4 @@ digitOf Checks = 4
 digitOf Packet = 5
 digitOf Session = 6
 digitOf Output = 8
+digitOf Store = 9

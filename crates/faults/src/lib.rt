@@ -25,6 +25,8 @@ pub enum Cause {
     UncarriableClaim,
     BufferTooShort,
     PacketTooLarge,
+    StoreFull,
+    CutOutside,
 }
 
 #[derive(Clone, Copy, PartialEq, Eq, Debug)]
@@ -35,6 +37,7 @@ pub enum Layer {
     Packet,
     Session,
     Output,
+    Store,
 }
 
 // Rules, and the matching tuples of a rule, count from 1; both are 0 outside a step.
@@ -68,6 +71,8 @@ impl Cause {
             Cause::UncarriableClaim => 64,
             Cause::BufferTooShort => 81,
             Cause::PacketTooLarge => 82,
+            Cause::StoreFull => 91,
+            Cause::CutOutside => 92,
         }
     }
 
@@ -93,6 +98,8 @@ impl Cause {
             Cause::UncarriableClaim => Layer::Session,
             Cause::BufferTooShort => Layer::Output,
             Cause::PacketTooLarge => Layer::Output,
+            Cause::StoreFull => Layer::Store,
+            Cause::CutOutside => Layer::Store,
         }
     }
 }
@@ -108,6 +115,7 @@ impl Layer {
             Layer::Packet => 5,
             Layer::Session => 6,
             Layer::Output => 8,
+            Layer::Store => 9,
         }
     }
 }

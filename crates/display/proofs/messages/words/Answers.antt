@@ -52,3 +52,9 @@ returns-in-BufferTooShort c = sym (ap wordsOf (c .in-BufferTooShort .is))
 
 pub returns-in-PacketTooLarge : need.returns-in-PacketTooLarge
 returns-in-PacketTooLarge c = sym (ap wordsOf (c .in-PacketTooLarge .is))
+
+pub returns-in-StoreFull : need.returns-in-StoreFull
+returns-in-StoreFull c = sym (ap wordsOf (c .in-StoreFull .is))
+
+pub returns-in-CutOutside : need.returns-in-CutOutside
+returns-in-CutOutside c = sym (ap wordsOf (c .in-CutOutside .is))

@@ -1,0 +1,5 @@
+pub mod Nths
+mod Granted
+mod Slots
+mod Laid
+mod Fronts

@@ -1,0 +1,10 @@
+use mathlib.Core.Path.{_≡_, refl, ap, _∙_}
+use mathlib.Core.List.{append-nil}
+use Rattle.store.specs.Overlays.{laidOver}
+use Rattle.store.proofs.Laid.{laid-none}
+use Rattle.store.proofs.overlays.Overlay.over.Needs as need
+
+pub returns : need.returns
+returns g c =
+    let b = g .S·Source .list (c .args .base) in
+    record { list = ap (laidOver b) (c .none .ensures) ∙ laid-none b; floor = refl; space = refl }

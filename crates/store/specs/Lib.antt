@@ -1,0 +1,6 @@
+pub mod Bounds
+pub mod Calls
+pub mod Tables
+pub mod Owned
+pub mod Overlays
+pub mod Rounds
