@@ -1,7 +1,6 @@
 // The overlay: the claims of any source, which stay, and up to 128 more behind them.
 ghost use mathlib.Core.Path.{_≡_};
 ghost use Prim.Native.Nat.{_+_, min};
-ghost use denote.Ref.{now};
 ghost use lib.ListN.{length};
 ghost use Rattle.store.specs.Owned.{owned};
 ghost use Rattle.store.specs.Overlays.{laidOver, floorOver, capacityOver};

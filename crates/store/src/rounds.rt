@@ -1,8 +1,6 @@
 // What whoever works over any store relies on, in small: a claim put to it is read back, and a cut takes it away again.
-ghost use mathlib.Core.List.{[], _∷_, _++_};
 ghost use mathlib.Core.Path.{_≡_};
 ghost use denote.Ref.{now};
-ghost use lib.ListN.{length, take};
 ghost use Rattle.store.specs.Rounds.{Round};
 use super::stores::Store;
 use claims::Claim;

@@ -1,5 +1,4 @@
 // What a store is: a source with a floor and a capacity, to which claims can be put and from which they can be cut.
-ghost use mathlib.Core.List.{[], _∷_, _++_};
 ghost use mathlib.Core.Path.{_≡_};
 ghost use Prim.Native.Nat.{ℕ};
 ghost use denote.Ref.{now};

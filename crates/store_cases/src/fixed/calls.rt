@@ -1,7 +1,6 @@
 // The calls of a store of eight records: floor 1, capacity 8.
 ghost use mathlib.Core.List.{[], _∷_};
 ghost use mathlib.Core.Path.{_≡_};
-ghost use denote.Ref.{now};
 ghost use Rattle.store_cases.specs.Fixeds.{listOf};
 use super::Fixed;
 use claims::Claim;

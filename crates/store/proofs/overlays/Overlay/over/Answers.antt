@@ -1,5 +1,4 @@
-use mathlib.Core.Path.{_≡_, refl, ap, _∙_}
-use mathlib.Core.List.{append-nil}
+use mathlib.Core.Path.{refl, ap, _∙_}
 use Rattle.store.specs.Overlays.{laidOver}
 use Rattle.store.proofs.Laid.{laid-none}
 use Rattle.store.proofs.overlays.Overlay.over.Needs as need

@@ -2,7 +2,7 @@ use native.Mathlib.Omega.{arith}
 use mathlib.Core.Path.{_≡_, refl, ap, _∙_}
 use mathlib.Core.List.{[], _∷_, _++_}
 use Prim.Native.Nat.{min}
-use lib.ListN.{length, length-append, length-take}
+use lib.ListN.{length-take}
 use Rattle.store.specs.Owned.{owned}
 use Rattle.store.specs.Overlays.{laidOver}
 use Rattle.store.proofs.Granted.{pushed}

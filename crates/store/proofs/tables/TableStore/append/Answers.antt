@@ -1,8 +1,8 @@
 use native.Mathlib.Omega.{arith}
 use mathlib.Core.Path.{_≡_, refl, ap, _∙_}
-use mathlib.Core.List.{List, [], _∷_, _++_}
+use mathlib.Core.List.{[], _∷_, _++_}
 use Prim.Native.Nat.{min}
-use lib.ListN.{length, take, length-append, length-take}
+use lib.ListN.{take, length-take}
 use Rattle.list.specs.Held.{items, room}
 use Rattle.store.proofs.Fronts.{front-bounds, front-length, front-more}
 use Rattle.store.proofs.Granted.{pushed}

@@ -1,5 +1,5 @@
 use borrow.Author.Needs.{needs}
-use Rattle.std.proofs.shelf.Lists.{take-more-set, length-take, length-set}
+use Rattle.std.proofs.shelf.Lists.{take-more-set, length-take}
 use Rattle.store_cases.proofs.fixed.calls.FixedStore.append.Needs as need
 
 pub returns : need.returns
