@@ -38,21 +38,55 @@ fn claim_val_type_assign<'a>(cursor: &mut Cursor<'a>) -> Result<Expr, Stop>
     value_type_expr(cursor)
 }
 
+fn value_first<'a>(cursor: &mut Cursor<'a>) -> Result<(Expr, Expr), Stop>
+    ensures reads { λ r. ⌜ Reading G.assignsValueFirst (rest (now (cursor .entry))) (shown (twoOf (textOf (now (cursor .entry)))) r (rest (now (cursor .exit)))) ⌝ }
+    ensures text { λ _. ⌜ textOf (now (cursor .exit)) ≡ textOf (now (cursor .entry)) ⌝ }
+{
+    let v = claim_val_assign(cursor)?;
+    cursor.expect(Terminal::Comma)?;
+    let y = claim_val_type_assign(cursor)?;
+    Ok((v, y))
+}
+
+fn value_type_first<'a>(cursor: &mut Cursor<'a>) -> Result<(Expr, Expr), Stop>
+    ensures reads { λ r. ⌜ Reading G.assignsValueTypeFirst (rest (now (cursor .entry))) (shown (twoOf (textOf (now (cursor .entry)))) r (rest (now (cursor .exit)))) ⌝ }
+    ensures text { λ _. ⌜ textOf (now (cursor .exit)) ≡ textOf (now (cursor .entry)) ⌝ }
+{
+    let y = claim_val_type_assign(cursor)?;
+    cursor.expect(Terminal::Comma)?;
+    let v = claim_val_assign(cursor)?;
+    Ok((v, y))
+}
+
 fn claim_value_assign<'a>(cursor: &mut Cursor<'a>) -> Result<(Expr, Expr), Stop>
     ensures reads { λ r. ⌜ Reading G.Claim-value-assign (rest (now (cursor .entry))) (shown (twoOf (textOf (now (cursor .entry)))) r (rest (now (cursor .exit)))) ⌝ }
     ensures text { λ _. ⌜ textOf (now (cursor .exit)) ≡ textOf (now (cursor .entry)) ⌝ }
 {
     if cursor.sees(Terminal::KeyValue) {
-        let v = claim_val_assign(cursor)?;
-        cursor.expect(Terminal::Comma)?;
-        let y = claim_val_type_assign(cursor)?;
-        Ok((v, y))
+        value_first(cursor)
     } else {
-        let y = claim_val_type_assign(cursor)?;
-        cursor.expect(Terminal::Comma)?;
-        let v = claim_val_assign(cursor)?;
-        Ok((v, y))
+        value_type_first(cursor)
     }
+}
+
+fn type_first<'a>(cursor: &mut Cursor<'a>) -> Result<Action, Stop>
+    ensures reads { λ r. ⌜ Reading G.assignsTypeFirst (rest (now (cursor .entry))) (shown (actionOf (textOf (now (cursor .entry)))) r (rest (now (cursor .exit)))) ⌝ }
+    ensures text { λ _. ⌜ textOf (now (cursor .exit)) ≡ textOf (now (cursor .entry)) ⌝ }
+{
+    let n = claim_type_assign(cursor)?;
+    cursor.expect(Terminal::Comma)?;
+    let (v, y) = claim_value_assign(cursor)?;
+    Ok(Action::New(n, v, y))
+}
+
+fn type_last<'a>(cursor: &mut Cursor<'a>) -> Result<Action, Stop>
+    ensures reads { λ r. ⌜ Reading G.assignsTypeLast (rest (now (cursor .entry))) (shown (actionOf (textOf (now (cursor .entry)))) r (rest (now (cursor .exit)))) ⌝ }
+    ensures text { λ _. ⌜ textOf (now (cursor .exit)) ≡ textOf (now (cursor .entry)) ⌝ }
+{
+    let (v, y) = claim_value_assign(cursor)?;
+    cursor.expect(Terminal::Comma)?;
+    let n = claim_type_assign(cursor)?;
+    Ok(Action::New(n, v, y))
 }
 
 fn claim_new<'a>(cursor: &mut Cursor<'a>) -> Result<Action, Stop>
@@ -60,15 +94,9 @@ fn claim_new<'a>(cursor: &mut Cursor<'a>) -> Result<Action, Stop>
     ensures text { λ _. ⌜ textOf (now (cursor .exit)) ≡ textOf (now (cursor .entry)) ⌝ }
 {
     if cursor.sees(Terminal::KeyType) {
-        let n = claim_type_assign(cursor)?;
-        cursor.expect(Terminal::Comma)?;
-        let (v, y) = claim_value_assign(cursor)?;
-        Ok(Action::New(n, v, y))
+        type_first(cursor)
     } else {
-        let (v, y) = claim_value_assign(cursor)?;
-        cursor.expect(Terminal::Comma)?;
-        let n = claim_type_assign(cursor)?;
-        Ok(Action::New(n, v, y))
+        type_last(cursor)
     }
 }
 

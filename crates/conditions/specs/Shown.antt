@@ -29,11 +29,17 @@ condOf us (cond.Value o l p m) = T.value-cond (operOf us o) (wordOf us l) (operO
 abbrev pub halfOf : List ℕ → Oper × Piece → T.Oper × Word
 halfOf us h = (operOf us (h .0), wordOf us (h .1))
 
+abbrev pub condItems : Conds → List Cond
+condItems cs = take (cs .len) (cs .items)
+
 abbrev pub condsOf : List ℕ → Conds → List T.Cond
-condsOf us cs = map (condOf us) (take (cs .len) (cs .items))
+condsOf us cs = map (condOf us) (condItems cs)
 
 abbrev pub selectionOf : List ℕ → Selection → T.Selection
 selectionOf us s = record { name = mapped (wordOf us) (s .name); conds = condsOf us (s .conds) }
 
+abbrev pub selectionItems : Selections → List Selection
+selectionItems ss = take (ss .len) (ss .items)
+
 abbrev pub selectionsOf : List ℕ → Selections → List T.Selection
-selectionsOf us ss = map (selectionOf us) (take (ss .len) (ss .items))
+selectionsOf us ss = map (selectionOf us) (selectionItems ss)

@@ -75,20 +75,34 @@ fn val_type_cond<'a>(cursor: &mut Cursor<'a>) -> Result<(Oper, Piece), Stop>
     Ok((o, l))
 }
 
+fn value_first<'a>(cursor: &mut Cursor<'a>) -> Result<Cond, Stop>
+    ensures reads { λ r. ⌜ Reading G.valueFirst (rest (now (cursor .entry))) (shown (condOf (textOf (now (cursor .entry)))) r (rest (now (cursor .exit)))) ⌝ }
+    ensures text { λ _. ⌜ textOf (now (cursor .exit)) ≡ textOf (now (cursor .entry)) ⌝ }
+{
+    let (o, l) = val_cond(cursor)?;
+    cursor.expect(Terminal::Comma)?;
+    let (p, m) = val_type_cond(cursor)?;
+    Ok(Cond::Value(o, l, p, m))
+}
+
+fn value_type_first<'a>(cursor: &mut Cursor<'a>) -> Result<Cond, Stop>
+    ensures reads { λ r. ⌜ Reading G.valueTypeFirst (rest (now (cursor .entry))) (shown (condOf (textOf (now (cursor .entry)))) r (rest (now (cursor .exit)))) ⌝ }
+    ensures text { λ _. ⌜ textOf (now (cursor .exit)) ≡ textOf (now (cursor .entry)) ⌝ }
+{
+    let (p, m) = val_type_cond(cursor)?;
+    cursor.expect(Terminal::Comma)?;
+    let (o, l) = val_cond(cursor)?;
+    Ok(Cond::Value(o, l, p, m))
+}
+
 fn value_cond<'a>(cursor: &mut Cursor<'a>) -> Result<Cond, Stop>
     ensures reads { λ r. ⌜ Reading G.Value-cond (rest (now (cursor .entry))) (shown (condOf (textOf (now (cursor .entry)))) r (rest (now (cursor .exit)))) ⌝ }
     ensures text { λ _. ⌜ textOf (now (cursor .exit)) ≡ textOf (now (cursor .entry)) ⌝ }
 {
     if cursor.sees(Terminal::KeyValue) {
-        let (o, l) = val_cond(cursor)?;
-        cursor.expect(Terminal::Comma)?;
-        let (p, m) = val_type_cond(cursor)?;
-        Ok(Cond::Value(o, l, p, m))
+        value_first(cursor)
     } else {
-        let (p, m) = val_type_cond(cursor)?;
-        cursor.expect(Terminal::Comma)?;
-        let (o, l) = val_cond(cursor)?;
-        Ok(Cond::Value(o, l, p, m))
+        value_type_first(cursor)
     }
 }
 

@@ -9,4 +9,5 @@ pub use tree::Conds;
 pub use tree::Oper;
 pub use tree::Selection;
 pub use tree::Selections;
+pub use tree::item;
 pub use tree::no_selections;

@@ -23,21 +23,35 @@ fn sel_condition_body<'a>(cursor: &mut Cursor<'a>) -> Result<Conds, Stop>
     Ok(conds)
 }
 
+fn unnamed<'a>(cursor: &mut Cursor<'a>) -> Result<Selection, Stop>
+    ensures reads { λ r. ⌜ Reading G.unnamed (rest (now (cursor .entry))) (shown (selectionOf (textOf (now (cursor .entry)))) r (rest (now (cursor .exit)))) ⌝ }
+    ensures text { λ _. ⌜ textOf (now (cursor .exit)) ≡ textOf (now (cursor .entry)) ⌝ }
+{
+    let conds = sel_condition_body(cursor)?;
+    Ok(Selection { name: None, conds })
+}
+
+fn named<'a>(cursor: &mut Cursor<'a>) -> Result<Selection, Stop>
+    ensures reads { λ r. ⌜ Reading G.named (rest (now (cursor .entry))) (shown (selectionOf (textOf (now (cursor .entry)))) r (rest (now (cursor .exit)))) ⌝ }
+    ensures text { λ _. ⌜ textOf (now (cursor .exit)) ≡ textOf (now (cursor .entry)) ⌝ }
+{
+    let i = cursor.expect(Terminal::Identifier)?;
+    cursor.expect(Terminal::Colon)?;
+    let conds = sel_condition_body(cursor)?;
+    Ok(Selection {
+        name: Some(i),
+        conds,
+    })
+}
+
 fn sel_condition<'a>(cursor: &mut Cursor<'a>) -> Result<Selection, Stop>
     ensures reads { λ r. ⌜ Reading G.Sel-condition (rest (now (cursor .entry))) (shown (selectionOf (textOf (now (cursor .entry)))) r (rest (now (cursor .exit)))) ⌝ }
     ensures text { λ _. ⌜ textOf (now (cursor .exit)) ≡ textOf (now (cursor .entry)) ⌝ }
 {
     if cursor.sees(Terminal::OpenSquare) {
-        let conds = sel_condition_body(cursor)?;
-        Ok(Selection { name: None, conds })
+        unnamed(cursor)
     } else {
-        let i = cursor.expect(Terminal::Identifier)?;
-        cursor.expect(Terminal::Colon)?;
-        let conds = sel_condition_body(cursor)?;
-        Ok(Selection {
-            name: Some(i),
-            conds,
-        })
+        named(cursor)
     }
 }
 

@@ -2,7 +2,9 @@
 ghost use mathlib.Core.Path.{_≡_};
 ghost use mathlib.Core.List.{List, [], _∷_, _++_};
 ghost use Prim.Native.Nat.{ℕ, _+_, _<_};
-ghost use Rattle.conditions.specs.Shown.{condsOf, condOf, selectionsOf, selectionOf};
+ghost use Rattle.conditions.specs.Shown.{condsOf, condOf, selectionsOf, selectionOf, condItems, selectionItems};
+ghost use lib.ListN.{take};
+ghost use Rattle.std.specs.shelf.Maps.{nth};
 use cursor::Piece;
 use words::Terminal;
 
@@ -39,6 +41,35 @@ pub struct Selection {
 pub struct Selections {
     pub items: [Selection; 4],
     pub len: usize,
+}
+
+// The item of a number from 0 among the first of the slots, or none past the last.
+pub fn item<T: Copy>(slots: &[T], len: usize, n: usize) -> Option<T>
+    ensures { λ r. ⌜ r ≡ nth (take len (now (slots .entry))) n ⌝ }
+{
+    if n < len && n < slots.len() {
+        Some(slots[n])
+    } else {
+        None
+    }
+}
+
+impl Conds {
+    // The condition of a number from 0, or none past the last.
+    pub fn get(&self, n: usize) -> Option<Cond>
+        ensures { λ r. ⌜ r ≡ nth (condItems (now (self .entry))) n ⌝ }
+    {
+        item(&self.items, self.len, n)
+    }
+}
+
+impl Selections {
+    // The selection of a number from 0, or none past the last.
+    pub fn get(&self, n: usize) -> Option<Selection>
+        ensures { λ r. ⌜ r ≡ nth (selectionItems (now (self .entry))) n ⌝ }
+    {
+        item(&self.items, self.len, n)
+    }
 }
 
 fn no_piece() -> Piece {

@@ -55,20 +55,25 @@ Val-type-cond = do
   l ← Value-type-literal
   return (o, l)
 
+-- Val-cond COMMA Val-type-cond
+abbrev pub valueFirst : Reads Cond
+valueFirst = do
+  v ← Val-cond
+  t Comma
+  y ← Val-type-cond
+  return (both v y)
+
+-- Val-type-cond COMMA Val-cond
+abbrev pub valueTypeFirst : Reads Cond
+valueTypeFirst = do
+  y ← Val-type-cond
+  t Comma
+  v ← Val-cond
+  return (both v y)
+
 -- Value-cond = (Val-cond COMMA Val-type-cond) / (Val-type-cond COMMA Val-cond)
 abbrev pub Value-cond : Reads Cond
-Value-cond =
-    (KeyValue ∷ []) starts
-    (do
-      v ← Val-cond
-      t Comma
-      y ← Val-type-cond
-      return (both v y))
-    else (do
-      y ← Val-type-cond
-      t Comma
-      v ← Val-cond
-      return (both v y))
+Value-cond = (KeyValue ∷ []) starts valueFirst else valueTypeFirst
 
 -- Cond = Value-cond / Type-cond
 abbrev pub A-cond : Reads Cond
@@ -93,18 +98,22 @@ Sel-condition-body = do
   t CloseSquare
   return cs
 
+abbrev pub unnamed : Reads Selection
+unnamed = do
+  cs ← Sel-condition-body
+  return (record { name = None; conds = cs })
+
+-- IDENTIFIER COLON Sel-condition-body
+abbrev pub named : Reads Selection
+named = do
+  i ← t Identifier
+  t Colon
+  cs ← Sel-condition-body
+  return (record { name = Some i; conds = cs })
+
 -- Sel-condition = Sel-condition-body / (IDENTIFIER COLON Sel-condition-body)
 abbrev pub Sel-condition : Reads Selection
-Sel-condition =
-    (OpenSquare ∷ []) starts
-    (do
-      cs ← Sel-condition-body
-      return (record { name = None; conds = cs }))
-    else (do
-      i ← t Identifier
-      t Colon
-      cs ← Sel-condition-body
-      return (record { name = Some i; conds = cs }))
+Sel-condition = (OpenSquare ∷ []) starts unnamed else named
 
 abbrev pub selectionsBegin : List Terminal
 selectionsBegin = OpenSquare ∷ Identifier ∷ []
@@ -156,35 +165,45 @@ Claim-val-type-assign = t KeyValueType >> t Assign >> Value-type-expr
 abbrev pub Two : Type 0
 Two = Expr × Expr
 
+-- Claim-val-assign COMMA Claim-val-type-assign
+abbrev pub assignsValueFirst : Reads Two
+assignsValueFirst = do
+  v ← Claim-val-assign
+  t Comma
+  y ← Claim-val-type-assign
+  return (v, y)
+
+-- Claim-val-type-assign COMMA Claim-val-assign
+abbrev pub assignsValueTypeFirst : Reads Two
+assignsValueTypeFirst = do
+  y ← Claim-val-type-assign
+  t Comma
+  v ← Claim-val-assign
+  return (v, y)
+
 -- Claim-value-assign = (Claim-val-assign COMMA Claim-val-type-assign) / (Claim-val-type-assign COMMA Claim-val-assign)
 abbrev pub Claim-value-assign : Reads Two
-Claim-value-assign =
-    (KeyValue ∷ []) starts
-    (do
-      v ← Claim-val-assign
-      t Comma
-      y ← Claim-val-type-assign
-      return (v, y))
-    else (do
-      y ← Claim-val-type-assign
-      t Comma
-      v ← Claim-val-assign
-      return (v, y))
+Claim-value-assign = (KeyValue ∷ []) starts assignsValueFirst else assignsValueTypeFirst
+
+-- Claim-type-assign COMMA Claim-value-assign
+abbrev pub assignsTypeFirst : Reads Action
+assignsTypeFirst = do
+  n ← Claim-type-assign
+  t Comma
+  v ← Claim-value-assign
+  return (new n (v .0) (v .1))
+
+-- Claim-value-assign COMMA Claim-type-assign
+abbrev pub assignsTypeLast : Reads Action
+assignsTypeLast = do
+  v ← Claim-value-assign
+  t Comma
+  n ← Claim-type-assign
+  return (new n (v .0) (v .1))
 
 -- Claim-prop-assign-list = (Claim-value-assign COMMA Claim-type-assign) / (Claim-type-assign COMMA Claim-value-assign)
 abbrev pub Claim-new : Reads Action
-Claim-new =
-    (KeyType ∷ []) starts
-    (do
-      n ← Claim-type-assign
-      t Comma
-      v ← Claim-value-assign
-      return (new n (v .0) (v .1)))
-    else (do
-      v ← Claim-value-assign
-      t Comma
-      n ← Claim-type-assign
-      return (new n (v .0) (v .1)))
+Claim-new = (KeyType ∷ []) starts assignsTypeFirst else assignsTypeLast
 
 abbrev pub Claim-copy : Reads Action
 Claim-copy = t KeyClaim >> t Assign >> t Identifier >>= (λ i. return (copy i))

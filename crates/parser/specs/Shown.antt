@@ -17,5 +17,8 @@ bodyOf us b = (selectionsOf us (b .0), actionOf us (b .1))
 abbrev pub ruleOf : List ℕ → Rule → T.Rule
 ruleOf us r = record { at = r .at; selections = selectionsOf us (r .selections); action = actionOf us (r .action) }
 
+abbrev pub ruleItems : Rules → List Rule
+ruleItems rs = take (rs .len) (rs .items)
+
 abbrev pub rulesOf : List ℕ → Rules → List T.Rule
-rulesOf us rs = map (ruleOf us) (take (rs .len) (rs .items))
+rulesOf us rs = map (ruleOf us) (ruleItems rs)

@@ -2,9 +2,11 @@
 ghost use mathlib.Core.Path.{_≡_};
 ghost use mathlib.Core.List.{List, [], _∷_, _++_};
 ghost use Prim.Native.Nat.{ℕ, _+_, _<_};
-ghost use Rattle.parser.specs.Shown.{rulesOf, ruleOf};
+ghost use Rattle.parser.specs.Shown.{rulesOf, ruleOf, ruleItems};
+ghost use Rattle.std.specs.shelf.Maps.{nth};
 use actions::Action;
 use conditions::Selections;
+use conditions::item;
 use conditions::no_selections;
 use cursor::Piece;
 use words::Terminal;
@@ -21,6 +23,15 @@ pub struct Rule {
 pub struct Rules {
     pub items: [Rule; 32],
     pub len: usize,
+}
+
+impl Rules {
+    // The rule of a number from 0, or none past the last.
+    pub fn get(&self, n: usize) -> Option<Rule>
+        ensures { λ r. ⌜ r ≡ nth (ruleItems (now (self .entry))) n ⌝ }
+    {
+        item(&self.items, self.len, n)
+    }
 }
 
 pub fn no_rules() -> Rules

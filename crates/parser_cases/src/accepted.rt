@@ -4,6 +4,7 @@ use super::wide::repeated;
 use super::wide::told;
 use actions::Action;
 use conditions::Cond;
+use parser::Rule;
 use std::test::*;
 
 #[test]
@@ -42,24 +43,29 @@ fn every_order_of_an_assignment() -> Result<(), Fail> {
     )
 }
 
+// The place of the first condition's right side, where its units lie, and the place of the claim that is copied.
+fn places(text: &[u8]) -> Option<(u16, u16, u16, u16)> {
+    let rule = first_rule(text)?;
+    match (rule.selections.get(0)?.conds.get(0)?, rule.action) {
+        (Cond::Type(_, right), Action::Copy(claim)) => {
+            Some((right.at, right.from, right.len, claim.at))
+        }
+        _ => None,
+    }
+}
+
+fn first_rule(text: &[u8]) -> Option<Rule> {
+    match parsed(text) {
+        Ok(rules) => rules.get(0),
+        Err(_) => None,
+    }
+}
+
 #[test]
 fn places_of_a_rule() -> Result<(), Fail> {
-    match parsed(b" C1:[type != \"Type1\"] => ISSUE (Claim = C1);") {
-        Ok(rules) => {
-            let rule = rules.items[0];
-            check_eq(rule.at, 1)?;
-            check_eq(rule.selections.len, 1)?;
-            let selection = rule.selections.items[0];
-            check_eq(selection.conds.len, 1)?;
-            match selection.conds.items[0] {
-                Cond::Type(_, piece) => check_eq((piece.at, piece.from, piece.len), (13, 14, 5))?,
-                Cond::Value(_, _, _, _) => check(false)?,
-            }
-            match rule.action {
-                Action::Copy(piece) => check_eq((piece.at, piece.from, piece.len), (40, 40, 2)),
-                Action::New(_, _, _) => check(false),
-            }
-        }
-        Err(_) => check(false),
-    }
+    check_eq(
+        places(b" C1:[type != \"Type1\"] => ISSUE (Claim = C1);"),
+        Some((13, 14, 5, 40)),
+    )?;
+    check_eq(places(b"C1:[]=> ISSUE(Claim=C1);"), None)
 }
