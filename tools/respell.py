@@ -80,10 +80,21 @@ def respelled(name, fact):
     return ("-" if name in KEEP_DASH else "_").join(snake(p) for p in parts)
 
 
+def library():
+    """The names that files take from the library: they keep their spelling."""
+    names = set()
+    for f in sources():
+        with open(f, encoding="utf-8") as text:
+            for items in re.findall(r"use Rattle\.(?:std|core)[\w.]*\.\{([^}]*)\}", text.read()):
+                names |= {re.split(r" as ", i.strip())[0] for i in items.split(",")}
+    return names
+
+
 def table():
     turn = {}
+    theirs = library()
     for name, (f, fact, goal) in definitions().items():
-        if goal or not re.match(r"[A-Za-z]", name):
+        if goal or name in theirs or not re.match(r"[A-Za-z]", name):
             continue
         if name not in OTHER and "-" not in name and (name[:1].isupper() or not re.search(r"[A-Z]", name)):
             continue

@@ -180,17 +180,17 @@ within (star a) n k p w x = within a n (Then (Many (In a)) k) p w x
 within (plus a) n k p w x = within a n (Then (Many (In a)) k) p w x
 within (opt a) n k p w x = within a n k p w x
 
-cond_true : (a b : Bool) → cond a true b ≡ true → (a ≡ true) ⊎ (b ≡ true)
-cond_true true b h = inl refl
-cond_true false b h = inr h
+cond-true : (a b : Bool) → cond a true b ≡ true → (a ≡ true) ⊎ (b ≡ true)
+cond-true true b h = inl refl
+cond-true false b h = inr h
 
 true_cond : (a b : Bool) → b ≡ true → cond a true b ≡ true
 true_cond true b h = refl
 true_cond false b h = h
 
-not_true : (b : Bool) → not b ≡ true → b ≡ false
-not_true true h = absurd (false≢true h)
-not_true false h = refl
+not-true : (b : Bool) → not b ≡ true → b ≡ false
+not-true true h = absurd (false≢true h)
+not-true false h = refl
 
 no_true : (b : Bool) → (b ≡ true → ⊥) → b ≡ false
 no_true true h = absurd (h refl)
@@ -258,10 +258,10 @@ module _ (m : Automaton) (t : Tree) (st : Stands m m.head m.tail t) where
 
   hit_of : (fresh : Bool) (s : ℕ) → stops m fresh s ≡ true → (w : List ℕ) → k w → Lives fresh s w
   hit_of fresh s i w kw =
-      elim (cond_true (fresh && m.nullable) _ i) [
+      elim (cond-true (fresh && m.nullable) _ i) [
         | inl j ↦ let c = and_true fresh m.nullable j in inl (c.0, ([], w, refl, of_null t (sym st.nulls ∙ c.1), kw))
         | inr j ↦
-            let c = some_meet m.lasts s (eqb-false (bit_and m.lasts s) 0 (not_true _ j)) in
+            let c = some_meet m.lasts s (eqb-false (bit_and m.lasts s) 0 (not-true _ j)) in
             inr (inl (c.0, c.2, ends S K t 0 k right c.0 w (subst (λ z. Has z c.0) st.ends c.1) kw))
       ]
 
@@ -272,7 +272,7 @@ module _ (m : Automaton) (t : Tree) (st : Stands m m.head m.tail t) where
   hit_last fresh s p l i = true_cond (fresh && m.nullable) _ (ap not (ne_eqb (bit_and m.lasts s) 0 (meets m.lasts s p (subst (λ z. Has z p) (sym st.ends) l) i)))
 
   back : (x : ℕ) (w : List ℕ) (fresh : Bool) (s : ℕ) → Lives (not h) (stepped m fresh s x) w → Lives fresh s (x ∷ w)
-  back x w fresh s (inl c) = inr (inr (not_true h c.0, (x, [], w, refl, c.1)))
+  back x w fresh s (inl c) = inr (inr (not-true h c.0, (x, [], w, refl, c.1)))
   back x w fresh s (inr (inl c)) =
       let d = step_of fresh s x c.0 c.1 in
       elim d.0 [
@@ -284,8 +284,8 @@ module _ (m : Automaton) (t : Tree) (st : Stands m m.head m.tail t) where
   sound : (w : List ℕ) (fresh : Bool) (s : ℕ) → run m fresh s w ≡ true → Lives fresh s w
   sound [] fresh s r = hit_of fresh s r [] (λ _. refl)
   sound (x ∷ w) fresh s r =
-      elim (cond_true (not e && stops m fresh s) _ r) [
-        | inl i ↦ let j = and_true (not e) (stops m fresh s) i in hit_of fresh s j.1 (x ∷ w) (λ et. absurd (true≢false (sym et ∙ not_true e j.0)))
+      elim (cond-true (not e && stops m fresh s) _ r) [
+        | inl i ↦ let j = and_true (not e) (stops m fresh s) i in hit_of fresh s j.1 (x ∷ w) (λ et. absurd (true≢false (sym et ∙ not-true e j.0)))
         | inr i ↦ back x w fresh s (sound w (not h) (stepped m fresh s x) i)
       ]
 

@@ -1,12 +1,12 @@
 use Rattle.std.proofs.Common.{◌≡◌, ℕ, ◌+◌, ◌<◌, ◌≤◌, ltb, List, [], ◌∷◌, length, get_or, take, drop, IfSome, Some, None, Option, sym, refl, ap, ◌∙◌, arith, lt-ltb}
 use Rattle.std.proofs.lemmas.List.{drop_more}
-use Rattle.std.proofs.lemmas.Bool.{cond_true}
+use Rattle.std.proofs.lemmas.Bool.{cond-true}
 use Rattle.std.specs.Option.{SomeIff}
 use Rattle.listing.specs.Letters.{utf16}
 use Rattle.display.specs.Letters.{Letter}
 
 one_unit : (c : ℕ) → c < 65536 → utf16 c ≡ c ∷ []
-one_unit c h = cond_true (ltb c 65536) _ _ (lt-ltb c 65536 h)
+one_unit c h = cond-true (ltb c 65536) _ _ (lt-ltb c 65536 h)
 
 pub letter_one : (us : List ℕ) (i c : ℕ) → i < length us → c ≡ get_or us i 0 → c < 65536 → Letter us i c
 letter_one us i c h e s =

@@ -1,6 +1,6 @@
 use Rattle.std.proofs.Common.{◌≡◌, ℕ, ◌+◌, ◌-◌, ◌*◌, ◌<◌, ◌≤◌, Bool, true, false, cond, ◌&&◌, eqb, leb, ◌⊎◌, List, [], ◌∷◌, length, get_or, drop, Some, None, Ok, Err, sym, refl, ap, ◌∙◌, inl, inr, arith, length-drop, eq-eqb, ne_eqb, le-leb}
 use Rattle.std.proofs.lemmas.List.{at_drop_more, drop_all}
-use Rattle.std.proofs.lemmas.Bool.{and_parts, leb-true, cond_true, cond-false}
+use Rattle.std.proofs.lemmas.Bool.{and_parts, leb-true, cond-true, cond-false}
 use Rattle.std.proofs.lemmas.Bool.Decides.{nat_tests}
 use borrow.Author.Tests.{lt-leb}
 use Rattle.std.specs.List.{slice_get}
@@ -55,10 +55,10 @@ module _ (us : List ℕ) (from : ℕ) (h : from < length us) where
   unsigned_not d = unsigned_at us from h ∙ cond-false _ _ _ d
 
   pub unsigned_fits : digits (drop from us) ≡ true → decimal 0 (drop from us) ≤ 18446744073709551615 → unsigned_of (drop from us) ≡ Ok (decimal 0 (drop from us))
-  unsigned_fits d k = unsigned_at us from h ∙ cond_true _ _ _ d ∙ cond_true _ _ _ (le-leb _ _ k)
+  unsigned_fits d k = unsigned_at us from h ∙ cond-true _ _ _ d ∙ cond-true _ _ _ (le-leb _ _ k)
 
   pub unsigned_over : digits (drop from us) ≡ true → (decimal 0 (drop from us) ≤ 18446744073709551615 → ⊥) → unsigned_of (drop from us) ≡ Err NumberOutOfRange
-  unsigned_over d k = unsigned_at us from h ∙ cond_true _ _ _ d ∙ (let m : 18446744073709551615 < decimal 0 (drop from us) = omega arith in cond-false _ _ _ (lt-leb _ _ m))
+  unsigned_over d k = unsigned_at us from h ∙ cond-true _ _ _ d ∙ (let m : 18446744073709551615 < decimal 0 (drop from us) = omega arith in cond-false _ _ _ (lt-leb _ _ m))
 
 pub signed_none : (us : List ℕ) → slice_get us 0 ≡ None → signed_of us ≡ Err NotANumber
 signed_none [] e = refl
@@ -66,13 +66,13 @@ signed_none (u ∷ us) e = let z : ◌≡◌ {A = ℕ} 0 1 = cc in absurd (omega
 
 pub signed_minus : (us : List ℕ) (u : ℕ) → slice_get us 0 ≡ Some u → u ≡ 45 → signed_of us ≡ negative (unsigned_of (drop 1 us))
 signed_minus [] u e h = let z : ◌≡◌ {A = ℕ} 0 1 = cc in absurd (omega arith)
-signed_minus (v ∷ us) u e h = let m : v ≡ 45 = cc in cond_true (eqb v 45) _ _ (eq-eqb v 45 m)
+signed_minus (v ∷ us) u e h = let m : v ≡ 45 = cc in cond-true (eqb v 45) _ _ (eq-eqb v 45 m)
 
 pub signed_plus : (us : List ℕ) (u : ℕ) → slice_get us 0 ≡ Some u → u ≡ 43 → signed_of us ≡ positive (unsigned_of (drop 1 us))
 signed_plus [] u e h = let z : ◌≡◌ {A = ℕ} 0 1 = cc in absurd (omega arith)
 signed_plus (v ∷ us) u e h =
     let m : v ≡ 43 = cc in
-    cond-false (eqb v 45) _ _ (ne_eqb v 45 (λ n. omega arith)) ∙ cond_true (eqb v 43) _ _ (eq-eqb v 43 m)
+    cond-false (eqb v 45) _ _ (ne_eqb v 45 (λ n. omega arith)) ∙ cond-true (eqb v 43) _ _ (eq-eqb v 43 m)
 
 pub signed_plain : (us : List ℕ) (u : ℕ) → slice_get us 0 ≡ Some u → (u ≡ 45 → ⊥) → (u ≡ 43 → ⊥) → signed_of us ≡ positive (unsigned_of (drop 0 us))
 signed_plain [] u e h k = let z : ◌≡◌ {A = ℕ} 0 1 = cc in absurd (omega arith)

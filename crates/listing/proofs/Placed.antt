@@ -1,6 +1,6 @@
 use Rattle.std.proofs.Common.{◌≡◌, ℕ, ◌+◌, ◌*◌, ◌/◌, ◌≤◌, leb, List, [], ◌∷◌, ◌++◌, length, take, drop, Some, sym, ap, ◌∙◌, subst, arith, length-append, le-leb}
 use Rattle.std.proofs.lemmas.List.{drop_at, take_all}
-use Rattle.std.proofs.lemmas.Bool.{cond_true}
+use Rattle.std.proofs.lemmas.Bool.{cond-true}
 use Rattle.claims.specs.Texts.{part_of}
 use Rattle.claims.specs.declared.texts.Origin.TheVariants.{Rules}
 use Rattle.claims.specs.declared.records.Claim.{Claim}
@@ -37,7 +37,7 @@ stands a b bs packet p n h k e =
     let l = length-append a b in
     let m = ap length e in
     let c : 2 * p + 2 * n ≤ length bs = omega arith in
-    cond_true (leb (2 * p + 2 * n) (length bs)) _ _ (le-leb _ _ c)
+    cond-true (leb (2 * p + 2 * n) (length bs)) _ _ (le-leb _ _ c)
     ∙ ap (λ t. Some (take (2 * n) (drop (2 * p) t))) e
     ∙ ap (λ t. Some (take (2 * n) t)) (drop_at a b (2 * p) h)
     ∙ ap Some (take_all (2 * n) b (omega arith))

@@ -8,7 +8,7 @@ use Rattle.std.proofs.lemmas.Int.Digits.{number_lt}
 use Rattle.std.proofs.lemmas.Int.{to_z-of_z, of_z-to_z, ints}
 use Rattle.std.proofs.ByRecursion.{All-take}
 use Rattle.std.proofs.lemmas.List.{take_at, take-append-drop, length-take-le, append-nil}
-use Rattle.std.proofs.lemmas.Bool.{cases_Bool, leb-true, le-leb, cond_true, cond-false}
+use Rattle.std.proofs.lemmas.Bool.{cases_Bool, leb-true, le-leb, cond-true, cond-false}
 use Rattle.faults.specs.declared.Cause.TheVariants.{ClaimPastEnd, BooleanOverOne}
 use Rattle.claims.specs.declared.values.ValueType.{ValueType}
 use Rattle.claims.specs.declared.values.ValueType.TheVariants.{Uint64, Int64, String, Boolean}
@@ -87,7 +87,7 @@ text_in-encode us rest =
     let l = length-unit_bytes us in
     let a = length-append (unit_bytes us) rest in
     let room : 2 * length us ≤ length (unit_bytes us ++ rest) = omega arith in
-    cond_true (leb (2 * length us) (length (unit_bytes us ++ rest))) _ _ (le-leb _ _ room)
+    cond-true (leb (2 * length us) (length (unit_bytes us ++ rest))) _ _ (le-leb _ _ room)
     ∙ ap (λ z. Some (units z)) (take_at (unit_bytes us) rest (2 * length us) l)
     ∙ ap Some (units_bytes us)
 
@@ -119,7 +119,7 @@ text_read [] us h e = let z : ◌≡◌ {A = ℕ} 0 1 = cc in absurd (omega arit
 text_read (n ∷ bs) us h e =
     elim (cases_Bool (leb (2 * n) (length bs))) [
       | inl y ↦
-          let is : Some (units (take (2 * n) bs)) ≡ Some us = sym (cond_true _ _ _ y) ∙ e in
+          let is : Some (units (take (2 * n) bs)) ≡ Some us = sym (cond-true _ _ _ y) ∙ e in
           let same : units (take (2 * n) bs) ≡ us = cc in
           subst (TextFront (n ∷ bs)) same (text_front n bs h (leb-true _ _ y))
       | inr x ↦
@@ -143,10 +143,10 @@ of_z_lt z h = omega (arith, ints)
 pub value_in-encode : (v : Value) (rest : List ℕ) → Fits v → value_in (type_of v) (encode_value v ++ rest) ≡ Ok v
 value_in-encode (uint64 n) rest h =
     let e = eight_in n rest h in
-    cond_true _ _ _ e.0 ∙ ap (λ m. Ok (uint64 m)) e.1
+    cond-true _ _ _ e.0 ∙ ap (λ m. Ok (uint64 m)) e.1
 value_in-encode (int64 z) rest h =
     let e = eight_in (of_z w64 z) rest (of_z_lt z h) in
-    cond_true _ _ _ e.0 ∙ ap (λ m. Ok (int64 (to_z w64 m))) e.1 ∙ ap (λ m. Ok (int64 m)) (to_z-of_z w64 z h)
+    cond-true _ _ _ e.0 ∙ ap (λ m. Ok (int64 (to_z w64 m))) e.1 ∙ ap (λ m. Ok (int64 m)) (to_z-of_z w64 z h)
 value_in-encode (string us) rest h = ap (λ o. need o ClaimPastEnd (λ u. Ok (string u))) (text_in-encode us rest)
 value_in-encode (boolean true) rest h = refl
 value_in-encode (boolean false) rest h = refl

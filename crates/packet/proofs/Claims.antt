@@ -4,7 +4,7 @@ use Rattle.std.proofs.Common.{◌≡◌, ℕ, zero, suc, ◌+◌, ◌-◌, ◌*�
 use Rattle.std.specs.List.{AllByRecursion as All}
 use Rattle.std.proofs.ByRecursion.{All-drop}
 use Rattle.std.proofs.lemmas.List.{drop_at, drop-drop}
-use Rattle.std.proofs.lemmas.Bool.{and_parts, and_from, cond_true, cond-false, le-ltb, ltb-false, eq-eqb, eqb-true}
+use Rattle.std.proofs.lemmas.Bool.{and_parts, and_from, cond-true, cond-false, le-ltb, ltb-false, eq-eqb, eqb-true}
 use Rattle.faults.specs.declared.Cause.TheVariants.{NotAPacket, LengthMismatch, TooManyClaims, ClaimPastEnd, UnknownValueType, IllFormedText}
 use Rattle.claims.specs.declared.values.ValueType.{ValueType}
 use Rattle.faults.specs.declared.Fault.{Fault}
@@ -56,7 +56,7 @@ one_claim_in-encode c rest h =
     ∙ claim_steps bs t w (type_of v) (Ok v) (text_in-encode t (encode_text w ++ (encode_value v ++ rest)))
     (ap text_in past_type ∙ text_in-encode w (encode_value v ++ rest)) h.spelt
     (ap (value_in (type_of v)) past_word ∙ value_in-encode v rest h.value_fits)
-    ∙ cond_true (well_formed_claim c) (Ok c) (Err IllFormedText) (sound_claim c h)
+    ∙ cond-true (well_formed_claim c) (Ok c) (Err IllFormedText) (sound_claim c h)
 
 pub encode_injective : (c d : Claim) → Carriable c → Carriable d → encode c ≡ encode d → c ≡ d
 encode_injective c d h i e =

@@ -2,7 +2,7 @@
 use Rattle.std.proofs.Common.{◌≡◌, ℕ, ◌+◌, ◌-◌, ◌*◌, ◌<◌, ◌≤◌, cond, eqb, leb, List, [], ◌∷◌, length, get_or, take, drop, ℤ, Some, None, Ok, Err, sym, refl, ap, ◌∙◌, add-zero, arith, w64, to_z}
 use Rattle.std.specs.Int.Digits.{number_from_digits}
 use Rattle.std.proofs.lemmas.List.{drop_more, drop_all, length-drop, length-take-le, get_or-drop}
-use Rattle.std.proofs.lemmas.Bool.{cond_true, cond-false, le-leb, lt-leb}
+use Rattle.std.proofs.lemmas.Bool.{cond-true, cond-false, le-leb, lt-leb}
 use Rattle.faults.specs.declared.Cause.TheVariants.{ClaimPastEnd, BooleanOverOne}
 use Rattle.claims.specs.declared.texts.Origin.TheVariants.{Packet}
 use Rattle.claims.specs.declared.values.ValueType.{ValueType}
@@ -25,7 +25,7 @@ module _ (bs : List ℕ) (at : ℕ) where
     text_cut short = let l = length-drop (at + 1) bs in at_text ∙ cond-false _ _ _ (lt-leb (2 * n) _ (omega arith))
 
     pub text_there : at + 1 + 2 * n ≤ length bs → text_in (drop at bs) ≡ Some (units (take (2 * n) (drop (at + 1) bs)))
-    text_there room = let l = length-drop (at + 1) bs in at_text ∙ cond_true _ _ _ (le-leb (2 * n) _ (omega arith))
+    text_there room = let l = length-drop (at + 1) bs in at_text ∙ cond-true _ _ _ (le-leb (2 * n) _ (omega arith))
 
   pub text_lies : (n : ℕ) → at + 1 + 2 * n ≤ length bs → Lies bs at (record { origin = Packet; place = at + 1; len = n })
   text_lies n room =
@@ -67,12 +67,12 @@ module _ (bs : List ℕ) (at : ℕ) (k : ValueType) where
   pub uint_there : (n : ℕ) → k ≡ Uint64 → at + 8 ≤ length bs → n ≡ number_from_digits 256 (take 8 (drop at bs)) → value_in k (drop at bs) ≡ Ok (uint64 n)
   uint_there n is h e =
       let l = length-drop at bs in
-      ap (λ x. value_in x (drop at bs)) is ∙ cond_true (leb 8 (length (drop at bs))) _ _ (le-leb 8 _ (omega arith)) ∙ ap (λ m. Ok (uint64 m)) (sym e)
+      ap (λ x. value_in x (drop at bs)) is ∙ cond-true (leb 8 (length (drop at bs))) _ _ (le-leb 8 _ (omega arith)) ∙ ap (λ m. Ok (uint64 m)) (sym e)
 
   pub int_there : (z : ℤ) (n : ℕ) → k ≡ Int64 → at + 8 ≤ length bs → n ≡ number_from_digits 256 (take 8 (drop at bs)) → z ≡ to_z w64 n → value_in k (drop at bs) ≡ Ok (int64 z)
   int_there z n is h e f =
       let l = length-drop at bs in
-      ap (λ x. value_in x (drop at bs)) is ∙ cond_true (leb 8 (length (drop at bs))) _ _ (le-leb 8 _ (omega arith)) ∙ ap (λ m. Ok (int64 (to_z w64 m))) (sym e) ∙ ap (λ m. Ok (int64 m)) (sym f)
+      ap (λ x. value_in x (drop at bs)) is ∙ cond-true (leb 8 (length (drop at bs))) _ _ (le-leb 8 _ (omega arith)) ∙ ap (λ m. Ok (int64 (to_z w64 m))) (sym e) ∙ ap (λ m. Ok (int64 m)) (sym f)
 
 -- a boolean
 module _ (bs : List ℕ) (at : ℕ) where
@@ -84,4 +84,4 @@ module _ (bs : List ℕ) (at : ℕ) where
     truth_over o = ap boolean_in (drop_more bs at 0 h) ∙ cond-false _ _ _ (lt-leb (get_or bs at 0) 1 o)
 
     pub truth_there : get_or bs at 0 ≤ 1 → boolean_in (drop at bs) ≡ Ok (boolean (eqb (get_or bs at 0) 1))
-    truth_there o = ap boolean_in (drop_more bs at 0 h) ∙ cond_true _ _ _ (le-leb (get_or bs at 0) 1 o)
+    truth_there o = ap boolean_in (drop_more bs at 0 h) ∙ cond-true _ _ _ (le-leb (get_or bs at 0) 1 o)

@@ -2,7 +2,7 @@
 use Rattle.std.proofs.Common.{◌≡◌, ℕ, zero, suc, ◌+◌, ◌-◌, ◌<◌, ◌≤◌, Bool, true, false, cond, not, ◌||◌, eqb, ltb, ◌⊎◌, List, [], ◌∷◌, ◌++◌, length, get_or, take, drop, Ok, Err, Result, sym, refl, ap, ◌∙◌, subst, inl, inr, append_assoc, arith, length-append}
 use Rattle.std.proofs.ByRecursion.{All-push, All-drop}
 use Rattle.std.proofs.lemmas.List.{drop-drop, length-drop, flat_map_more, append-nil, take-append-drop}
-use Rattle.std.proofs.lemmas.Bool.{cases_Bool, cond_true, cond-false, or_cases, or_parts, ltb-true, ltb-false, eqb-true, eqb-false, not_true, not-false}
+use Rattle.std.proofs.lemmas.Bool.{cases_Bool, cond-true, cond-false, or_cases, or_parts, ltb-true, ltb-false, eqb-true, eqb-false, not-true, not-false}
 use Rattle.std.specs.List.{AllByRecursion as All}
 use Rattle.claims.specs.Meaning.{Claim}
 use Rattle.faults.specs.At.{fault_at}

@@ -1,7 +1,7 @@
 -- The records of a packet's claims stand for the claims.
 use Rattle.std.proofs.Common.{◌≡◌, ℕ, zero, suc, ◌+◌, ◌-◌, ◌*◌, ◌<◌, ◌≤◌, leb, List, [], ◌∷◌, ◌++◌, length, take, drop, Some, None, Option, sym, refl, ap, ◌∙◌, subst, append_assoc, add-zero, arith, length-append}
 use Rattle.std.proofs.lemmas.List.{take_at, drop_at, drop-drop, length-drop}
-use Rattle.std.proofs.lemmas.Bool.{cond_true, le-leb}
+use Rattle.std.proofs.lemmas.Bool.{cond-true, le-leb}
 use Rattle.std.specs.Option.{option_map}
 use Rattle.std.specs.List.{slice_get}
 use Rattle.claims.specs.Claims.{onward, text_of, value_of, claim_of, claims_of}
@@ -77,7 +77,7 @@ module _ (rules bs : List ℕ) where
       let s = length-encode_text us in
       let room : at + 1 + 2 * length us ≤ length bs = omega arith in
       let one : drop (at + 1) bs ≡ unit_bytes us ++ rest = sym (drop-drop 1 at bs) ∙ ap (drop 1) e in
-      ap (option_map units) (cond_true (leb (at + 1 + 2 * length us) (length bs)) (Some (take (2 * length us) (drop (at + 1) bs))) None (le-leb _ _ room))
+      ap (option_map units) (cond-true (leb (at + 1 + 2 * length us) (length bs)) (Some (take (2 * length us) (drop (at + 1) bs))) None (le-leb _ _ room))
       ∙ ap (λ z. Some (units (take (2 * length us) z))) one
       ∙ ap (λ z. Some (units z)) (take_at (unit_bytes us) rest (2 * length us) (length-unit_bytes us))
       ∙ ap Some (units_bytes us)

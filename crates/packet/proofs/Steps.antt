@@ -2,7 +2,7 @@
 use Rattle.faults.specs.declared.Cause.{Cause}
 use Rattle.std.proofs.Common.{◌≡◌, ℕ, ◌+◌, ◌-◌, true, false, List, drop, Some, None, Ok, Err, Result, sym, ap, ◌∙◌, subst, arith}
 use Rattle.std.proofs.lemmas.List.{drop-drop}
-use Rattle.std.proofs.lemmas.Bool.{cond_true, cond-false}
+use Rattle.std.proofs.lemmas.Bool.{cond-true, cond-false}
 use Rattle.faults.specs.declared.Cause.TheVariants.{ClaimPastEnd, UnknownValueType, IllFormedText}
 use Rattle.claims.specs.declared.values.ValueType.{ValueType}
 use Rattle.claims.specs.declared.texts.Text.{Text}
@@ -55,7 +55,7 @@ module _ (bs : List ℕ) (at : ℕ) (t : Text) (ft : Lies bs at t) (it : text_in
           claim_unsound e = value_read (Ok (held_value bs v)) iv ∙ cond-false _ _ _ e
 
           pub claim_there : well_formed_claim (held_claim bs (claim_at t w v)) ≡ true → one_claim_in (drop at bs) ≡ Ok (held_claim bs (claim_at t w v))
-          claim_there e = value_read (Ok (held_value bs v)) iv ∙ cond_true _ _ _ e
+          claim_there e = value_read (Ok (held_value bs v)) iv ∙ cond-true _ _ _ e
 
       pub claim_lies : (v : Value) → ValueLies bs q v → ClaimLies bs at (claim_at t w v)
       claim_lies v fv =

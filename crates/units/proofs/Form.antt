@@ -1,6 +1,6 @@
 -- The first unit at fault, found in one pass.
 use Rattle.std.proofs.Common.{◌≡◌, ℕ, zero, suc, ◌+◌, ◌<◌, ◌≤◌, Bool, true, false, cond, List, [], ◌∷◌, length, get_or, drop, Some, None, Option, sym, refl, ap, ◌∙◌, subst, add-zero, zero-add, add-one, arith}
-use Rattle.std.proofs.lemmas.Bool.{cond_true, cond-false}
+use Rattle.std.proofs.lemmas.Bool.{cond-true, cond-false}
 use Rattle.std.proofs.lemmas.List.{drop_more, drop_all, get_or-drop}
 use Rattle.units.specs.Form.{ill, ill_at, first_ill, FirstIll}
 
@@ -55,7 +55,7 @@ module _ (us : List ℕ) (i before u after : ℕ) (h : i < length us) (iu : u �
       ∙ ap (λ v. cond (ill before u v) (Some i) (first_ill u (i + 1) (drop (i + 1) us))) next
 
   pub ill_stops : ill before u after ≡ true → first_ill before i (drop i us) ≡ Some i
-  ill_stops e = turn ∙ cond_true _ _ _ e
+  ill_stops e = turn ∙ cond-true _ _ _ e
 
   pub ill_goes : ill before u after ≡ false → first_ill u (i + 1) (drop (i + 1) us) ≡ first_ill before i (drop i us)
   ill_goes e = sym (turn ∙ cond-false _ _ _ e)

@@ -1,7 +1,7 @@
 -- The words from a place on: past blanks, and past a word.
 use Rattle.std.proofs.Common.{◌≡◌, ℕ, zero, suc, pred, ◌+◌, ◌-◌, ◌<◌, ◌≤◌, Bool, true, false, cond, List, [], ◌∷◌, length, get_or, drop, Some, None, sym, refl, ap, ◌∙◌, add-zero, one-add, arith}
 use Rattle.std.proofs.lemmas.List.{drop_more, drop_all, drop-drop, get_or-drop, length-drop}
-use Rattle.std.proofs.lemmas.Bool.{cond_true, cond-false}
+use Rattle.std.proofs.lemmas.Bool.{cond-true, cond-false}
 use Rattle.std.specs.List.{prefix_len}
 use Rattle.words.specs.Places.{from, word_at}
 use Rattle.words.specs.Tokens.{spelled_as, word_of, WordAt, Reads}
@@ -20,7 +20,7 @@ blanks_at : (u : ℕ) (us : List ℕ) (place : ℕ) (b : Bool) → blank u ≡ b
 blanks_at u us place true e more =
     let k = one-add (prefix_len blank us) in
     let p : suc place + prefix_len blank us ≡ place + (1 + prefix_len blank us) = omega arith in
-    cond_true _ _ _ e ∙ more ∙ ap (words_from (drop (prefix_len blank us) us) 0) p ∙ ap (λ n. words_from (drop n (u ∷ us)) 0 (place + (1 + prefix_len blank us))) (sym k)
+    cond-true _ _ _ e ∙ more ∙ ap (words_from (drop (prefix_len blank us) us) 0) p ∙ ap (λ n. words_from (drop n (u ∷ us)) 0 (place + (1 + prefix_len blank us))) (sym k)
 blanks_at u us place false e more = ap (words_from (u ∷ us) 0) (sym (add-zero place))
 
 blanks : (us : List ℕ) (place : ℕ) → words_from us 0 place ≡ words_from (drop (prefix_len blank us) us) 0 (place + prefix_len blank us)

@@ -2,7 +2,7 @@
 use Rattle.std.proofs.Common.{◌≡◌, ℕ, zero, suc, ◌+◌, ◌-◌, ◌<◌, ◌≤◌, Bool, true, false, cond, ◌&&◌, eqb, leb, List, [], ◌∷◌, length, get_or, take, drop, Some, None, Option, sym, refl, ap, ◌∙◌, subst, inl, inr, add-zero, arith}
 use Rattle.std.proofs.lemmas.List.{drop_more, drop_all, drop-drop, get_or-drop, get_or_past, length-drop, length-take-le}
 use Rattle.std.proofs.lemmas.List.Sums.{prefix_len-le-length, prefix_len-drop_yes}
-use Rattle.std.proofs.lemmas.Bool.{cases_lt, cond_true, cond-false, le-leb, lt-leb, eq-eqb, ne_eqb, or_left, and_parts, eqb-true, eqb-false}
+use Rattle.std.proofs.lemmas.Bool.{cases_lt, cond-true, cond-false, le-leb, lt-leb, eq-eqb, ne_eqb, or_left, and_parts, eqb-true, eqb-false}
 use Rattle.std.specs.List.{prefix_len, AllByRecursion as All}
 use Rattle.words.specs.Signs.{fits, sign_in, sign_of, sign_word}
 use Rattle.words.specs.Terminals.{Kind, terminal, unreadable, symbols, keywords, value_types}
@@ -123,7 +123,7 @@ module _ (us : List ℕ) (i : ℕ) (h : i < length us) where
     as_name : spelled u rest ≡ name (u ∷ rest) (take (end - i) (drop i us))
     as_name =
         let n : prefix_len in_name (drop i us) ≡ end - i = omega arith in
-        cond_true _ _ _ is-letter ∙ ap (λ z. name (u ∷ rest) (front in_name z)) (sym here) ∙ ap (λ k. name (u ∷ rest) (take k (drop i us))) n
+        cond-true _ _ _ is-letter ∙ ap (λ z. name (u ∷ rest) (front in_name z)) (sym here) ∙ ap (λ k. name (u ∷ rest) (take k (drop i us))) n
 
     run_length : length (take (end - i) (drop i us)) ≡ end - i
     run_length =
@@ -139,7 +139,7 @@ module _ (us : List ℕ) (i : ℕ) (h : i < length us) where
     module _ (ws : List ℕ) (iw : ws ≡ take (end - i) (drop i us)) (short : end - i ≤ 31) where
       as_short : spelled u rest ≡ name_word ws (spelled_by keywords ws)
       as_short =
-          as_name ∙ cond_true _ _ _ (ap (λ k. leb k 31) run_length ∙ le-leb (end - i) 31 short)
+          as_name ∙ cond-true _ _ _ (ap (λ k. leb k 31) run_length ∙ le-leb (end - i) 31 short)
           ∙ ap (λ z. name_word z (spelled_by keywords z)) (sym iw)
 
       long_is : length ws ≡ end - i
@@ -159,7 +159,7 @@ module _ (us : List ℕ) (i : ℕ) (h : i < length us) where
     as_string : spelled u rest ≡ string (u ∷ rest) (take (to - (i + 1)) rest) (drop to us)
     as_string =
         let n : prefix_len in_string rest ≡ to - (i + 1) = omega arith in
-        cond-false _ _ _ (ap letter is-quote) ∙ cond_true _ _ _ (eq-eqb u 34 is-quote)
+        cond-false _ _ _ (ap letter is-quote) ∙ cond-true _ _ _ (eq-eqb u 34 is-quote)
         ∙ ap (string (u ∷ rest) (front in_string rest)) behind ∙ ap (λ k. string (u ∷ rest) (take k rest) (drop to us)) n
 
     quoted_length : length (take (to - (i + 1)) rest) ≡ to - (i + 1)
@@ -199,12 +199,12 @@ module _ (us : List ℕ) (i : ℕ) (h : i < length us) where
       pub string_long : (n : ℕ) → n ≡ length us → 255 < to - (i + 1) → word (unreadable TooLong) (n - i) [] ≡ spelled u rest
       string_long n e long =
           slipped TooLong n e
-          ∙ sym (as_string ∙ cond_true _ _ _ (close_end (sym iz ∙ quote')).1 ∙ cond-false _ _ _ (ap (λ k. leb k 255) quoted_length ∙ lt-leb (to - (i + 1)) 255 long))
+          ∙ sym (as_string ∙ cond-true _ _ _ (close_end (sym iz ∙ quote')).1 ∙ cond-false _ _ _ (ap (λ k. leb k 255) quoted_length ∙ lt-leb (to - (i + 1)) 255 long))
 
       module _ (ws : List ℕ) (iw : ws ≡ take (to - (i + 1)) rest) (short : to - (i + 1) ≤ 255) (end : ℕ) (ie : end ≡ to + 1) where
         as_quoted : spelled u rest ≡ quoted_word ws (spelled_by value_types ws)
         as_quoted =
-            as_string ∙ cond_true _ _ _ (close_end (sym iz ∙ quote')).1 ∙ cond_true _ _ _ (ap (λ k. leb k 255) quoted_length ∙ le-leb (to - (i + 1)) 255 short)
+            as_string ∙ cond-true _ _ _ (close_end (sym iz ∙ quote')).1 ∙ cond-true _ _ _ (ap (λ k. leb k 255) quoted_length ∙ le-leb (to - (i + 1)) 255 short)
             ∙ ap (λ x. quoted_word x (spelled_by value_types x)) (sym iw)
 
         quoted_is : length ws + 2 ≡ end - i

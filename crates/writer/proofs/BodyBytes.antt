@@ -3,7 +3,7 @@ use Rattle.std.proofs.Common.{◌≡◌, ℕ, zero, suc, ◌+◌, ◌*◌, ◌<�
 use Rattle.std.proofs.ByRecursion.{All-push, All-get_or}
 use Rattle.std.proofs.lemmas.List.{take_more, map_push, flat_map_more, map-append, take-append-drop, take_all, take_at, length-map}
 use Rattle.std.proofs.lemmas.Option.{slice_get_past, slice_get-get_or}
-use Rattle.std.proofs.lemmas.Bool.{cond_true, cond-false, or_left, or_right, or_from, lt-ltb, le-ltb}
+use Rattle.std.proofs.lemmas.Bool.{cond-true, cond-false, or_left, or_right, or_from, lt-ltb, le-ltb}
 use Rattle.std.specs.List.{AllByRecursion as All, slice_get}
 use Rattle.claims.specs.Meaning as meaning
 use Rattle.claims.specs.declared.records.Claim.{Claim}

@@ -1,7 +1,7 @@
 -- A whole packet: what writing answers, and what the buffer holds.
 use Rattle.std.proofs.Common.{◌≡◌, ℕ, ◌+◌, ◌<◌, ◌≤◌, Bool, true, false, cond, ◌||◌, ltb, ◌⊎◌, List, [], ◌∷◌, ◌++◌, map, length, get_or, take, drop, is_ok, Some, None, Ok, Err, Option, Result, sym, refl, ap, ◌∙◌, subst, inl, inr, arith}
 use Rattle.std.proofs.lemmas.List.{take_at, length-map}
-use Rattle.std.proofs.lemmas.Bool.{cases_lt, cond_true, cond-false, or_left, or_right, or_from, lt-ltb, le-ltb}
+use Rattle.std.proofs.lemmas.Bool.{cases_lt, cond-true, cond-false, or_left, or_right, or_from, lt-ltb, le-ltb}
 use Rattle.std.specs.Option.{option_map}
 use Rattle.std.specs.List.{AllByRecursion as All}
 use Rattle.claims.specs.Claims.{onward, claim_of, claims_of}
@@ -70,7 +70,7 @@ module _ (rules packet' : List ℕ) where
         record {
           claims = Some (shown_claims rules packet' cs);
           carried = (all_stand cs all, all_carriable cs all);
-          answer = ap Err e ∙ sym (cond_true _ _ _ t);
+          answer = ap Err e ∙ sym (cond-true _ _ _ t);
           buffer = refl;
           reread = tt;
         }
@@ -83,7 +83,7 @@ module _ (rules packet' : List ℕ) where
       refused_short f e h = record {
         claims = Some (shown_claims rules packet' cs);
         carried = (all_stand cs all, all_carriable cs all);
-        answer = ap Err e ∙ sym (cond-false _ _ _ within ∙ cond_true _ _ _ (lt-ltb (length old) (3 + length (shown_body rules packet' cs)) (omega arith)));
+        answer = ap Err e ∙ sym (cond-false _ _ _ within ∙ cond-true _ _ _ (lt-ltb (length old) (3 + length (shown_body rules packet' cs)) (omega arith)));
         buffer = refl;
         reread = tt;
       }
@@ -115,7 +115,7 @@ module _ (bs old new : List ℕ) where
       let within : (ltb 256 (length cs) || ltb 32765 (length (body cs))) ≡ false = or_from _ _ (le-ltb 256 (length cs) few) (le-ltb 32765 (length (body cs)) short) in
       elim (cases_lt (length old) (3 + length (body cs))) [
         | inl lt ↦
-            let e : r ≡ Err (fault_at BufferTooShort 0) = ans ∙ cond-false _ _ _ within ∙ cond_true _ _ _ (lt-ltb (length old) (3 + length (body cs)) lt) in
+            let e : r ≡ Err (fault_at BufferTooShort 0) = ans ∙ cond-false _ _ _ within ∙ cond-true _ _ _ (lt-ltb (length old) (3 + length (body cs)) lt) in
             let it : Rewrote bs old new (Err (fault_at BufferTooShort 0)) = (refl, omega arith, buf ∙ ap (λ x. filled x (Some cs) old) e) in
             subst (Rewrote bs old new) (sym e) it
         | inr ge ↦
