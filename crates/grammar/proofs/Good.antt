@@ -104,7 +104,7 @@ module _ {A : Type 0} {p : Reads A} {D D' : Mode → Rel A} {P P' : List Word �
     lost = λ ws rest e. let u = g.lost ws rest e in record { front = u.front; w = u.w; back = u.back; cut = u.cut; word = u.word; here = pto _ _ u.here };
     passes = λ f w b h. g.passes f w b (pfrom f w h);
     past_head = λ f w b h. g.past_head f w b (pfrom f w h);
-    past_begun = λ f w h. begins_as (to free) _ (g.past-begun f w (pfrom f w h));
+    past_begun = λ f w h. begins_as (to free) _ (g.past_begun f w (pfrom f w h));
     alive = λ ws rest e. let u = g.alive ws rest e in record { front = u.front; cut = u.cut; begun = begins_as (to free) _ u.begun; again = u.again };
     sample = begins_as (to free) _ g.sample;
   }

@@ -76,7 +76,7 @@ module _ {A : Type 0} {p : Reads A} {D : Mode → Rel A} {Q : List Word → Word
     lost = λ ws rest e. lost_placed ws rest (placed_of p ws _ e);
     passes = λ f w b h. on_placed p _ _ (g.passes f w b h);
     past_head = g.past_head;
-    past_begun = λ f w h. begun _ (g.past-begun f w h);
+    past_begun = λ f w h. begun _ (g.past_begun f w h);
     alive = λ ws rest e. alive_placed ws rest (placed_of p ws _ e);
     sample = begun [] g.sample;
   }

@@ -11,8 +11,8 @@ loop-i-preserved c =
     let s : ℕ = c.loop-i.set in
     let f : ℕ = get_or c.args.a.now.follow i 0 in
     elim c.if-has.branch [
-      | then-has w ↦ w.set-is ∙ ap (λ b. cond b (bit_or s f) s) w.if_has.ensures
-      | else-has w ↦ w.set-is ∙ ap (λ b. cond b (bit_or s f) s) w.if_has.ensures
+      | then-has w ↦ w.set-is ∙ ap (λ b. cond b (bit_or s f) s) w.if-has.ensures
+      | else-has w ↦ w.set-is ∙ ap (λ b. cond b (bit_or s f) s) w.if-has.ensures
     ]
     ∙ ap (λ z. cond (bit c.args.s i) (bit_or z f) z) c.loop-i.invariant
     ∙ reach_turn c.args.a.now.follow c.args.begun c.args.s i

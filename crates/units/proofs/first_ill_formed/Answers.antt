@@ -3,18 +3,18 @@ use Rattle.units.specs.Units.{units}
 use Rattle.units.proofs.Form.{first_ill_found, ill_stops, ill_goes, ill_ends}
 use Rattle.units.proofs.first_ill_formed.Goals as goal
 
-pub returns-then-is-ill : goal.returns-then-is-ill
-returns-then-is-ill c =
+pub returns-then-is_ill : goal.returns-then-is_ill
+returns-then-is_ill c =
     let us = units c.args.text.now in
     let e =
-    sym (ill_stops us c.loop-i.i c.loop-i.before c.loop-i.u c.unit-or-zero-after.result (omega arith) c.loop-i.invariant.0 c.unit-or-zero-after.ensures (sym c.if-is-ill.ensures))
+    sym (ill_stops us c.loop-i.i c.loop-i.before c.loop-i.u c.unit_or_zero-after.result (omega arith) c.loop-i.invariant.0 c.unit_or_zero-after.ensures (sym c.if-is_ill.ensures))
     ∙ c.loop-i.invariant.1 in
     record { value = e; first = first_ill_found us (Some c.loop-i.i) e }
 
 pub loop-i-preserved : goal.loop-i-preserved
 loop-i-preserved c = (
-  c.unit-or-zero-after.ensures,
-  ill_goes (units c.args.text.now) c.loop-i.i c.loop-i.before c.loop-i.u c.unit-or-zero-after.result (omega arith) c.loop-i.invariant.0 c.unit-or-zero-after.ensures (sym c.if-is-ill.ensures)
+  c.unit_or_zero-after.ensures,
+  ill_goes (units c.args.text.now) c.loop-i.i c.loop-i.before c.loop-i.u c.unit_or_zero-after.result (omega arith) c.loop-i.invariant.0 c.unit_or_zero-after.ensures (sym c.if-is_ill.ensures)
       ∙ c.loop-i.invariant.1,
 )
 

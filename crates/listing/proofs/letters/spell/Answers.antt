@@ -6,7 +6,7 @@ use Rattle.listing.proofs.Spelt.{spelling_more}
 use Rattle.listing.proofs.letters.spell.Goals as goal
 
 pub loop-c-preserved : goal.loop-c-preserved
-loop-c-preserved c = spelling_more c.args.letters.now c.loop-c.c-index c.c-item.result _ _ (omega arith) c.c-item.is c.loop-c.invariant c.in-ok-push-char.ensures
+loop-c-preserved c = spelling_more c.args.letters.now c.loop-c.c-index c.c-item.result _ _ (omega arith) c.c-item.is c.loop-c.invariant c.in_ok-push_char.ensures
 
 pub returns : goal.returns
 returns c = c.loop-c.invariant ∙ ap (λ t. unit_bytes (spelling t)) (take_all c.loop-c.c-index c.args.letters.now (omega arith))

@@ -5,7 +5,7 @@ use Rattle.listing.proofs.lists.put_text.Goals as goal
 
 pub returns : goal.returns
 returns c =
-    let e = c.in-ok-extend-from-slice.ensures in
+    let e = c.in_ok-extend_from_slice.ensures in
     let old = vec_items c.args.text.now in
     let l = c.args.text.now.ok.0 in
     let a = whole_even old c.requires.whole in
@@ -13,8 +13,8 @@ returns c =
     let p : length old ≡ 2 * (c.len-place.result / 2) = omega arith in
     record {
       grown = e.items;
-      whole = whole_append old c.args.more.now (vec_items c.extend-from-slice.new.self) c.requires.whole c.requires.more e.items;
+      whole = whole_append old c.args.more.now (vec_items c.extend_from_slice.new.self) c.requires.whole c.requires.more e.items;
       longer = omega arith;
       inside = (refl, omega arith);
-      stands = λ packet. stands old c.args.more.now (vec_items c.extend-from-slice.new.self) packet (c.len-place.result / 2) (length c.args.more.now / 2) p b e.items;
+      stands = λ packet. stands old c.args.more.now (vec_items c.extend_from_slice.new.self) packet (c.len-place.result / 2) (length c.args.more.now / 2) p b e.items;
     }

@@ -5,8 +5,8 @@ use Rattle.listing.specs.Numbers.{digits, decimal}
 use Rattle.listing.proofs.Digits.{digit_at, decimal_grows, decimal_more}
 use Rattle.listing.proofs.numbers.value_of_digits.Goals as goal
 
-pub overflow-sub-unit : goal.overflow-sub-unit
-overflow-sub-unit c = let d = digit_at (units c.args.text.now) c.loop-i.i c.unit.result (omega arith) c.unit.ensures c.loop-i.invariant.1 in omega arith
+pub overflow_sub-unit : goal.overflow_sub-unit
+overflow_sub-unit c = let d = digit_at (units c.args.text.now) c.loop-i.i c.unit.result (omega arith) c.unit.ensures c.loop-i.invariant.1 in omega arith
 
 pub returns-then-n-digit : goal.returns-then-n-digit
 returns-then-n-digit c =

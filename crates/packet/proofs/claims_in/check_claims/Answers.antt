@@ -3,9 +3,9 @@ use Rattle.packet.specs.Held.{held_claim}
 use Rattle.packet.proofs.Walks.{check_full, check_fails, check_goes, check_ends}
 use Rattle.packet.proofs.claims_in.check_claims.Goals as goal
 
-pub returns-then-count-eq-MAX-CLAIMS : goal.returns-then-count-eq-MAX-CLAIMS
-returns-then-count-eq-MAX-CLAIMS c =
-    ap Err c.at.ensures ∙ sym (check_full c.args.bytes.now c.loop-at.at c.loop-at.count c.loop-at-test.true c.if-count-eq-MAX-CLAIMS.true) ∙ c.loop-at.invariant.1
+pub returns-then-count-eq-MAX_CLAIMS : goal.returns-then-count-eq-MAX_CLAIMS
+returns-then-count-eq-MAX_CLAIMS c =
+    ap Err c.at.ensures ∙ sym (check_full c.args.bytes.now c.loop-at.at c.loop-at.count c.loop-at-test.true c.if-count-eq-MAX_CLAIMS.true) ∙ c.loop-at.invariant.1
 
 pub returns-in-Err : goal.returns-in-Err
 returns-in-Err c =

@@ -5,40 +5,40 @@ use Rattle.claims.specs.Meaning.{named}
 use Rattle.packet.proofs.Steps.{word_none, named_none, value_fails, claim_unsound, claim_there, claim_lies}
 use Rattle.packet.proofs.claims_in.claim_in.Goals as goal
 
-pub returns-in-default-text-at : goal.returns-in-default-text-at
-returns-in-default-text-at c = record {
+pub returns-in_default-text_at : goal.returns-in_default-text_at
+returns-in_default-text_at c = record {
   means =
       sym (word_none c.args.bytes.now c.args.at c.in-Some.typ c.in-Some.ensures.lies (sym c.in-Some.ensures.means)
-      c.past-text.result c.past-text.ensures (sym c.in-default-text-at.ensures.means));
+      c.past_text.result c.past_text.ensures (sym c.in_default-text_at.ensures.means));
   lies = tt;
 }
 
-pub returns-in-default-value-type : goal.returns-in-default-value-type
-returns-in-default-value-type c = record {
+pub returns-in_default-value_type : goal.returns-in_default-value_type
+returns-in_default-value_type c = record {
   means =
       sym (named_none c.args.bytes.now c.args.at c.in-Some.typ c.in-Some.ensures.lies (sym c.in-Some.ensures.means)
-      c.past-text.result c.past-text.ensures c.in-Some-text-at.word c.in-Some-text-at.ensures.lies (sym c.in-Some-text-at.ensures.means)
-      (sym (c.in-default-value-type.ensures ∙ ap (λ z. named (units z)) c.part.ensures)));
+      c.past_text.result c.past_text.ensures c.in-Some-text_at.word c.in-Some-text_at.ensures.lies (sym c.in-Some-text_at.ensures.means)
+      (sym (c.in_default-value_type.ensures ∙ ap (λ z. named (units z)) c.part.ensures)));
   lies = tt;
 }
 
-pub returns-in-err-value : goal.returns-in-err-value
-returns-in-err-value c =
-    let p = err_from_is_err_and c.from-residual.result c.from-residual.ensures.1 in
+pub returns-in_err-value : goal.returns-in_err-value
+returns-in_err-value c =
+    let p = err_from_is_err_and c.from_residual.result c.from_residual.ensures.1 in
     let e =
     value_fails c.args.bytes.now c.args.at c.in-Some.typ c.in-Some.ensures.lies (sym c.in-Some.ensures.means)
-    c.past-text.result c.past-text.ensures c.in-Some-text-at.word c.in-Some-text-at.ensures.lies (sym c.in-Some-text-at.ensures.means)
-    c.past-text-2.result c.past-text-2.ensures c.in-Some-value-type.named (sym (c.in-Some-value-type.ensures ∙ ap (λ z. named (units z)) c.part.ensures))
-    c.in-err-value.field-0.0 c.in-err-value.ensures.means in
+    c.past_text.result c.past_text.ensures c.in-Some-text_at.word c.in-Some-text_at.ensures.lies (sym c.in-Some-text_at.ensures.means)
+    c.past_text-2.result c.past_text-2.ensures c.in-Some-value_type.named (sym (c.in-Some-value_type.ensures ∙ ap (λ z. named (units z)) c.part.ensures))
+    c.in_err-value.field-0.0 c.in_err-value.ensures.means in
     rw (p.1, p.2) (record { means = e; lies = tt })
 
-pub returns-then-not-is-well-formed-claim : goal.returns-then-not-is-well-formed-claim
-returns-then-not-is-well-formed-claim c = record {
+pub returns-then-not-is_well_formed_claim : goal.returns-then-not-is_well_formed_claim
+returns-then-not-is_well_formed_claim c = record {
   means =
       sym (claim_unsound c.args.bytes.now c.args.at c.in-Some.typ c.in-Some.ensures.lies (sym c.in-Some.ensures.means)
-      c.past-text.result c.past-text.ensures c.in-Some-text-at.word c.in-Some-text-at.ensures.lies (sym c.in-Some-text-at.ensures.means)
-      c.past-text-2.result c.past-text-2.ensures c.in-Some-value-type.named (sym (c.in-Some-value-type.ensures ∙ ap (λ z. named (units z)) c.part.ensures))
-      c.in-ok-value.value (sym c.in-ok-value.ensures.means) (sym c.if-not-is-well-formed-claim.ensures));
+      c.past_text.result c.past_text.ensures c.in-Some-text_at.word c.in-Some-text_at.ensures.lies (sym c.in-Some-text_at.ensures.means)
+      c.past_text-2.result c.past_text-2.ensures c.in-Some-value_type.named (sym (c.in-Some-value_type.ensures ∙ ap (λ z. named (units z)) c.part.ensures))
+      c.in_ok-value.value (sym c.in_ok-value.ensures.means) (sym c.if-not-is_well_formed_claim.ensures));
   lies = tt;
 }
 
@@ -46,11 +46,11 @@ pub returns : goal.returns
 returns c = record {
   means =
       sym (claim_there c.args.bytes.now c.args.at c.in-Some.typ c.in-Some.ensures.lies (sym c.in-Some.ensures.means)
-      c.past-text.result c.past-text.ensures c.in-Some-text-at.word c.in-Some-text-at.ensures.lies (sym c.in-Some-text-at.ensures.means)
-      c.past-text-2.result c.past-text-2.ensures c.in-Some-value-type.named (sym (c.in-Some-value-type.ensures ∙ ap (λ z. named (units z)) c.part.ensures))
-      c.in-ok-value.value (sym c.in-ok-value.ensures.means) (sym c.if-not-is-well-formed-claim.ensures));
+      c.past_text.result c.past_text.ensures c.in-Some-text_at.word c.in-Some-text_at.ensures.lies (sym c.in-Some-text_at.ensures.means)
+      c.past_text-2.result c.past_text-2.ensures c.in-Some-value_type.named (sym (c.in-Some-value_type.ensures ∙ ap (λ z. named (units z)) c.part.ensures))
+      c.in_ok-value.value (sym c.in_ok-value.ensures.means) (sym c.if-not-is_well_formed_claim.ensures));
   lies =
       claim_lies c.args.bytes.now c.args.at c.in-Some.typ c.in-Some.ensures.lies (sym c.in-Some.ensures.means)
-      c.past-text.result c.past-text.ensures c.in-Some-text-at.word c.in-Some-text-at.ensures.lies (sym c.in-Some-text-at.ensures.means)
-      c.past-text-2.result c.past-text-2.ensures c.in-ok-value.value c.in-ok-value.ensures.lies;
+      c.past_text.result c.past_text.ensures c.in-Some-text_at.word c.in-Some-text_at.ensures.lies (sym c.in-Some-text_at.ensures.means)
+      c.past_text-2.result c.past_text-2.ensures c.in_ok-value.value c.in_ok-value.ensures.lies;
 }

@@ -9,7 +9,7 @@ returns-then-bytes-at c = record { means = sym (uint_none c.args.bytes.now c.arg
 
 pub returns-else-bytes-at : goal.returns-else-bytes-at
 returns-else-bytes-at c = record {
-  means = sym (uint_there c.args.bytes.now c.args.at c.args.kind c.number-at.result c.in-Uint64.is (omega arith) c.number-at.ensures);
+  means = sym (uint_there c.args.bytes.now c.args.at c.args.kind c.number_at.result c.in-Uint64.is (omega arith) c.number_at.ensures);
   lies = record { place = tt; shown = tt; inside = omega arith; ends = refl };
 }
 
@@ -19,7 +19,7 @@ returns-then-bytes-at-2 c = record { means = sym (int_none c.args.bytes.now c.ar
 pub returns-else-bytes-at-2 : goal.returns-else-bytes-at-2
 returns-else-bytes-at-2 c = record {
   means =
-      ap (λ z. Ok (int64 z)) (to_z-of_z w64 c.cast-signed.result (record { sfits = c.cast-signed.type-inv }))
-      ∙ sym (int_there c.args.bytes.now c.args.at c.args.kind c.cast-signed.result c.number-at-else-bytes-at-2.result c.in-Int64.is (omega arith) c.number-at-else-bytes-at-2.ensures c.cast-signed.ensures);
+      ap (λ z. Ok (int64 z)) (to_z-of_z w64 c.cast_signed.result (record { sfits = c.cast_signed.type_inv }))
+      ∙ sym (int_there c.args.bytes.now c.args.at c.args.kind c.cast_signed.result c.number_at-else-bytes-at-2.result c.in-Int64.is (omega arith) c.number_at-else-bytes-at-2.ensures c.cast_signed.ensures);
   lies = record { place = tt; shown = tt; inside = omega arith; ends = refl };
 }

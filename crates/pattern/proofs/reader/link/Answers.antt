@@ -17,9 +17,9 @@ loop-p-preserved c =
     let lt : c.loop-p.p < length c.loop-p.t.follow = omega arith in
     elim c.if-has.branch [
       | then-has w ↦ subst (λ z. (z.atoms ≡ c.args.t.now.atoms) × (length z.follow ≡ 60) × Spread f to old z.follow (c.loop-p.p + 1)) (sym w.t-is)
-          (c.loop-p.invariant.0, length-set now c.loop-p.p _ ∙ long, spread_add f to old now c.loop-p.p c.loop-p.invariant.2 (sym w.if_has.ensures) lt)
+          (c.loop-p.invariant.0, length-set now c.loop-p.p _ ∙ long, spread_add f to old now c.loop-p.p c.loop-p.invariant.2 (sym w.if-has.ensures) lt)
       | else-has w ↦ subst (λ z. (z.atoms ≡ c.args.t.now.atoms) × (length z.follow ≡ 60) × Spread f to old z.follow (c.loop-p.p + 1)) (sym w.t-is)
-          (c.loop-p.invariant.0, long, spread_keep f to old now c.loop-p.p c.loop-p.invariant.2 (sym w.if_has.ensures))
+          (c.loop-p.invariant.0, long, spread_keep f to old now c.loop-p.p c.loop-p.invariant.2 (sym w.if-has.ensures))
     ]
 
 pub loop-p-init : goal.loop-p-init

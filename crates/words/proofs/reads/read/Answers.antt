@@ -11,4 +11,4 @@ returns-then-at-count c = only_blanks (units c.args.text.now) c.args.start c.pas
 
 pub returns : goal.returns
 returns c =
-    next_word (units c.args.text.now) c.args.start c.past-at.result c.past-at.ensures.value c.word-at.result (omega arith) c.word-at.ensures
+    next_word (units c.args.text.now) c.args.start c.past-at.result c.past-at.ensures.value c.word_at.result (omega arith) c.word_at.ensures

@@ -7,7 +7,7 @@ use Rattle.store.proofs.overlays.OverlaySource.claim_at.Goals as goal
 pub returns-then-n-below : goal.returns-then-n-below
 returns-then-n-below g c =
     let s = c.args.self.now in
-    record { value = c.claim-at.ensures.value ∙ sym (laid_low (g.S.Source.list s.base) (owned s.own) c.args.n (omega arith)); same = refl }
+    record { value = c.claim_at.ensures.value ∙ sym (laid_low (g.S.Source.list s.base) (owned s.own) c.args.n (omega arith)); same = refl }
 
 pub returns-then-n-lt512 : goal.returns-then-n-lt512
 returns-then-n-lt512 g c =
