@@ -7,20 +7,20 @@ use Rattle.pattern.proofs.Whole.{malformed, well_formed_passed, over, accepted}
 use Rattle.pattern.specs.Judged.{Reads, Refusal, Accepted}
 use Rattle.pattern.proofs.read.Goals as goal
 
-pub returns-then-not-well-formed : goal.returns-then-not-well-formed
-returns-then-not-well-formed c =
+pub returns-then-not-well_formed : goal.returns-then-not-well_formed
+returns-then-not-well_formed c =
     let us = units c.args.pattern.now in
-    let e : Refusal us MalformedPattern = inl (refl, malformed us c.stands-head.result c.behind-head-start.result c.stands-head.ensures c.behind-head-start.ensures c.if-not-well-formed.ensures) in
+    let e : Refusal us MalformedPattern = inl (refl, malformed us c.stands-head.result c.behind_head-start.result c.stands-head.ensures c.behind_head-start.ensures c.if-not-well_formed.ensures) in
     record { exact = e; value = told_cause us (Err MalformedPattern) e }
 
-pub returns-in-default : goal.returns-in-default
-returns-in-default c =
+pub returns-in_default : goal.returns-in_default
+returns-in_default c =
     let us = units c.args.pattern.now in
     let e : Refusal us PatternOverLimit =
     inr (
       refl,
-      well_formed_passed us c.stands-head.result c.behind-head-start.result c.stands-head.ensures c.behind-head-start.ensures c.if-not-well-formed.ensures,
-      over us c.stands-head.result c.behind-head-start.result c.stands-head.ensures c.behind-head-start.ensures c.in-default.ensures,
+      well_formed_passed us c.stands-head.result c.behind_head-start.result c.stands-head.ensures c.behind_head-start.ensures c.if-not-well_formed.ensures,
+      over us c.stands-head.result c.behind_head-start.result c.stands-head.ensures c.behind_head-start.ensures c.in_default.ensures,
     ) in
     record { exact = e; value = told_cause us (Err PatternOverLimit) e }
 
@@ -28,6 +28,6 @@ pub returns : goal.returns
 returns c =
     let us = units c.args.pattern.now in
     let e =
-    accepted us c.stands-head.result c.behind-head-start.result c.stands-head.ensures c.behind-head-start.ensures
-    _ c.choice.new.t c.in-Some.whole (λ k lt. get_or-replicate 60 k 0 0 lt) c.in-Some.ensures c.count.result c.count.ensures c.if-not-well-formed.ensures in
+    accepted us c.stands-head.result c.behind_head-start.result c.stands-head.ensures c.behind_head-start.ensures
+    _ c.choice.new.t c.in-Some.whole (λ k lt. get_or-replicate 60 k 0 0 lt) c.in-Some.ensures c.count.result c.count.ensures c.if-not-well_formed.ensures in
     record { exact = e; value = told_cause us (Ok _) e }

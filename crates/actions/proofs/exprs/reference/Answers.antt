@@ -9,5 +9,5 @@ use Rattle.actions.proofs.exprs.reference.Goals as goal
 pub returns : goal.returns
 returns c =
     let e : text_of c.expect-2.new.self ≡ text_of c.args.cursor.now = search rules in
-    let h = subst (λ us. Reading (property (word_of us c.in-ok-i.i)) (rest c.expect-2.new.self) (shown (expr_of us) c.property.result (rest c.property.new.cursor))) e c.property.ensures.reads in
+    let h = subst (λ us. Reading (property (word_of us c.in_ok-i.i)) (rest c.expect-2.new.self) (shown (expr_of us) c.property.result (rest c.property.new.cursor))) e c.property.ensures.reads in
     search rules

@@ -7,4 +7,4 @@ pub returns-in-Some : goal.returns-in-Some
 returns-in-Some c =
     let e = c.in-Some.ensures in
     let q : c.from.result ≡ c.args.start = search rules in
-    seen_from (units c.short-text-text.result.now) c.in-Some.l _ _ c.args.start c.of-token.result c.short-text-text.ensures.value q e.0 e.4 c.of-token.ensures
+    seen_from (units c.short_text-text.result.now) c.in-Some.l _ _ c.args.start c.of_token.result c.short_text-text.ensures.value q e.0 e.4 c.of_token.ensures

@@ -6,21 +6,21 @@ use Rattle.writer.specs.Shown.{Writable}
 use Rattle.writer.proofs.BodyBytes.{all_found, not_found, size_all, size_more, writable_more}
 use Rattle.writer.proofs.bodies.body_size.Goals as goal
 
-pub returns-in-default : goal.returns-in-default
-returns-in-default g c = λ _. not_found (g.S.Source.list c.args.source.now) c.loop-i.i c.in-default.ensures.value (omega (arith, c.count-i-end.ensures.value))
+pub returns-in_default : goal.returns-in_default
+returns-in_default g c = λ _. not_found (g.S.Source.list c.args.source.now) c.loop-i.i c.in_default.ensures.value (omega (arith, c.count-i-end.ensures.value))
 
-pub returns-then-not-is-writable : goal.returns-then-not-is-writable
-returns-then-not-is-writable g c = λ h.
-    not_from_Decides c.is-writable.result c.is-writable.ensures c.if-not-is-writable.true
+pub returns-then-not-is_writable : goal.returns-then-not-is_writable
+returns-then-not-is_writable g c = λ h.
+    not_from_Decides c.is_writable.result c.is_writable.ensures c.if-not-is_writable.true
     (all_found (g.S.Source.list c.args.source.now) c.loop-i.i c.in-Some.claim c.in-Some.ensures.value (Writable c.args.rules.now c.args.packet.now) h)
 
 pub loop-i-preserved : goal.loop-i-preserved
 loop-i-preserved g c =
     let cs = g.S.Source.list c.args.source.now in
     let m = size_more c.args.rules.now c.args.packet.now cs c.loop-i.i c.in-Some.claim c.in-Some.ensures.value in (
-      omega (arith, c.loop-i.invariant.0, c.claim-size-sum.ensures.value),
-      writable_more c.args.rules.now c.args.packet.now cs c.loop-i.i c.in-Some.claim c.in-Some.ensures.value c.loop-i.invariant.1 (c.if-not-is-writable.ensures.0 refl),
-      omega (arith, c.loop-i.invariant.2, c.claim-size-sum.ensures.bound),
+      omega (arith, c.loop-i.invariant.0, c.claim_size-sum.ensures.value),
+      writable_more c.args.rules.now c.args.packet.now cs c.loop-i.i c.in-Some.claim c.in-Some.ensures.value c.loop-i.invariant.1 (c.if-not-is_writable.ensures.0 refl),
+      omega (arith, c.loop-i.invariant.2, c.claim_size-sum.ensures.bound),
     )
 
 pub returns : goal.returns

@@ -4,11 +4,11 @@ use Rattle.writer.proofs.BodyBytes.{all_found, not_found, written_all, body_fron
 use Rattle.writer.proofs.Records.{writable_parts}
 use Rattle.writer.proofs.bodies.write_body.Goals as goal
 
-pub returns-in-default : goal.returns-in-default
-returns-in-default g c = not_found (g.S.Source.list c.args.source.now) c.loop-i.i c.in-default.ensures.value (omega (arith, c.count-i-end.ensures.value))
+pub returns-in_default : goal.returns-in_default
+returns-in_default g c = not_found (g.S.Source.list c.args.source.now) c.loop-i.i c.in_default.ensures.value (omega (arith, c.count-i-end.ensures.value))
 
-pub write-claim-at-requires : goal.write-claim-at-requires
-write-claim-at-requires g c =
+pub write_claim-at-requires : goal.write_claim-at-requires
+write_claim-at-requires g c =
     let cs = g.S.Source.list c.args.source.now in
     let m = size_more c.args.rules.now c.args.packet.now cs c.loop-i.i c.in-Some.claim c.in-Some.ensures.value in
     let f = body_front c.args.rules.now c.args.packet.now cs (c.loop-i.i + 1) in (
@@ -21,10 +21,10 @@ pub loop-i-preserved : goal.loop-i-preserved
 loop-i-preserved g c =
     let cs = g.S.Source.list c.args.source.now in
     let m = size_more c.args.rules.now c.args.packet.now cs c.loop-i.i c.in-Some.claim c.in-Some.ensures.value in
-    let e = c.write-claim-at.ensures.place in (
+    let e = c.write_claim-at.ensures.place in (
       omega arith,
-      written_next c.args.rules.now c.args.packet.now cs c.loop-i.i c.in-Some.claim c.in-Some.ensures.value c.args.out.now c.loop-i.out c.write-claim-at.new.out c.loop-i.at
-          c.requires.1 c.loop-i.invariant.0 c.loop-i.invariant.1 c.write-claim-at.ensures.bytes,
+      written_next c.args.rules.now c.args.packet.now cs c.loop-i.i c.in-Some.claim c.in-Some.ensures.value c.args.out.now c.loop-i.out c.write_claim-at.new.out c.loop-i.at
+          c.requires.1 c.loop-i.invariant.0 c.loop-i.invariant.1 c.write_claim-at.ensures.bytes,
     )
 
 pub returns : goal.returns

@@ -7,6 +7,6 @@ pub returns : goal.returns
 returns c = record {
   place = refl;
   bytes =
-      written_set c.args.out.now c.args.at c.boolean-byte.result (omega arith)
-      ∙ ap (λ b. written c.args.out.now c.args.at (b ∷ [])) c.boolean-byte.ensures;
+      written_set c.args.out.now c.args.at c.boolean_byte.result (omega arith)
+      ∙ ap (λ b. written c.args.out.now c.args.at (b ∷ [])) c.boolean_byte.ensures;
 }

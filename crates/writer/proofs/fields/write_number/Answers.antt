@@ -6,6 +6,6 @@ pub returns : goal.returns
 returns c = record {
   place = refl;
   bytes =
-      written_number c.args.out.now c.args.at c.args.n (c.args.at + 8 - c.args.at) c.copy-from-slice.new.self
-      (c.copy-from-slice.ensures.after ∙ c.to-be-bytes.ensures ∙ eight_bytes c.args.n) c.requires (omega arith);
+      written_number c.args.out.now c.args.at c.args.n (c.args.at + 8 - c.args.at) c.copy_from_slice.new.self
+      (c.copy_from_slice.ensures.after ∙ c.to_be_bytes.ensures ∙ eight_bytes c.args.n) c.requires (omega arith);
 }

@@ -5,19 +5,19 @@ use Rattle.writer.specs.Shown.{shown_text}
 use Rattle.writer.specs.Writing.{written}
 use Rattle.writer.proofs.fields.write_part.Goals as goal
 
-pub write-text-requires : goal.write-text-requires
-write-text-requires c =
+pub write_text-requires : goal.write_text-requires
+write_text-requires c =
     let few = c.requires.0.short.few in
-    let u = ap length c.bytes-of.ensures.text in
-    let l = c.bytes-of.ensures.even in
+    let u = ap length c.bytes_of.ensures.text in
+    let l = c.bytes_of.ensures.even in
     (l, (omega arith, omega arith))
 
 pub returns : goal.returns
 returns c =
-    let e = ap encode_text c.bytes-of.ensures.text in
+    let e = ap encode_text c.bytes_of.ensures.text in
     let l = length-encode_text (shown_text c.args.rules.now c.args.packet.now c.args.text) in
     let k = ap length e in
     record {
-      place = omega (arith, c.write-text.ensures.place);
-      bytes = c.write-text.ensures.bytes ∙ ap (written c.args.out.now c.args.at) e;
+      place = omega (arith, c.write_text.ensures.place);
+      bytes = c.write_text.ensures.bytes ∙ ap (written c.args.out.now c.args.at) e;
     }

@@ -2,9 +2,9 @@ use Rattle.std.proofs.Common.{inl, inr, arith}
 use Rattle.writer.proofs.Whole.{refused_uncarriable, refused_large, refused_short, wrote}
 use Rattle.writer.proofs.writes.write.Goals as goal
 
-pub returns-in-default : goal.returns-in-default
-returns-in-default g c =
-    refused_uncarriable c.args.rules.now c.args.packet.now (g.S.Source.list c.args.source.now) c.args.out.now c.at.result c.at.ensures c.in-default.ensures
+pub returns-in_default : goal.returns-in_default
+returns-in_default g c =
+    refused_uncarriable c.args.rules.now c.args.packet.now (g.S.Source.list c.args.source.now) c.args.out.now c.at.result c.at.ensures c.in_default.ensures
 
 pub returns-then-count-gt256 : goal.returns-then-count-gt256
 returns-then-count-gt256 g c =
@@ -20,5 +20,5 @@ returns-then-out-size g c =
 pub returns : goal.returns
 returns g c =
     wrote c.args.rules.now c.args.packet.now (g.S.Source.list c.args.source.now) c.args.out.now c.in-Some.size
-    c.in-Some.ensures.0 c.in-Some.ensures.1 (omega (arith, c.count.ensures.value)) (omega arith) c.write-head.new.out c.write-body.new.out
-    (omega arith) c.write-head.ensures c.write-body.ensures
+    c.in-Some.ensures.0 c.in-Some.ensures.1 (omega (arith, c.count.ensures.value)) (omega arith) c.write_head.new.out c.write_body.new.out
+    (omega arith) c.write_head.ensures c.write_body.ensures

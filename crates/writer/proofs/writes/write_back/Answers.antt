@@ -9,5 +9,5 @@ pub returns : goal.returns
 returns c =
     let bs = c.args.bytes.now in
     let e = c.requires in
-    rewrote bs c.args.out.now c.write.new.out c.write.result (λ i. (c.type-inv.bytes i).fits) (ap (λ z. is_ok (judge z)) e ∙ c.args.packet.now.accepted)
+    rewrote bs c.args.out.now c.write.new.out c.write.result (λ i. (c.type_inv.bytes i).fits) (ap (λ z. is_ok (judge z)) e ∙ c.args.packet.now.accepted)
     (subst (λ z. Wrote [] bs (records_in z) c.args.out.now c.write.new.out c.write.result) (sym e) c.write.ensures)

@@ -3,13 +3,13 @@ use Rattle.cursor.specs.Reading.{rest, text_of}
 use Rattle.cursor.proofs.Expecting.{took, left, slipped, ended}
 use Rattle.cursor.proofs.cursor.Cursor.expect.Goals as goal
 
-pub returns-then-is-same : goal.returns-then-is-same
+pub returns-then-is_same : goal.returns-then-is_same
 unfolding rest text_of
-returns-then-is-same c = record { reads = took _ _ _ c.in-Word.p c.in-Word.end c.look-from-self.result c.in-Word.is c.if-is-same.ensures c.look-from-self.ensures; text = refl }
+returns-then-is_same c = record { reads = took _ _ _ c.in-Word.p c.in-Word.end c.look_from-self.result c.in-Word.is c.if-is_same.ensures c.look_from-self.ensures; text = refl }
 
-pub returns-else-is-same : goal.returns-else-is-same
+pub returns-else-is_same : goal.returns-else-is_same
 unfolding rest text_of
-returns-else-is-same c = record { reads = left _ _ _ c.in-Word.p c.in-Word.end c.in-Word.is c.if-is-same.ensures; text = refl }
+returns-else-is_same c = record { reads = left _ _ _ c.in-Word.p c.in-Word.end c.in-Word.is c.if-is_same.ensures; text = refl }
 
 pub returns-in-Slip : goal.returns-in-Slip
 unfolding rest text_of

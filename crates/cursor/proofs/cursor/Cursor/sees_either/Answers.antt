@@ -2,13 +2,13 @@ use Rattle.std.proofs.Common.{rules}
 use Rattle.cursor.specs.Reading.{rest}
 use Rattle.cursor.proofs.cursor.Cursor.sees_either.Goals as goal
 
-pub returns-then-is-same : goal.returns-then-is-same
+pub returns-then-is_same : goal.returns-then-is_same
 unfolding rest
-returns-then-is-same c = search rules
+returns-then-is_same c = search rules
 
-pub returns-else-is-same : goal.returns-else-is-same
+pub returns-else-is_same : goal.returns-else-is_same
 unfolding rest
-returns-else-is-same c = search rules
+returns-else-is_same c = search rules
 
 pub returns-in-Slip : goal.returns-in-Slip
 unfolding rest
