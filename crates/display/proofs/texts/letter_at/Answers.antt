@@ -9,5 +9,5 @@ returns-in-Some c = letter_two (units c.args.text.now) c.args.i c.in-Some.c c.un
 pub returns : goal.returns
 returns c =
     let f = c.from.ensures in
-    let k = c.unit-first.type-inv in
-    letter_from (units c.args.text.now) c.args.i c.from.result _ c.from-u32.result c.requires (f ∙ c.unit-first.ensures) (omega arith) c.from-u32.ensures.value
+    let k = c.unit-first.type_inv in
+    letter_from (units c.args.text.now) c.args.i c.from.result _ c.from_u32.result c.requires (f ∙ c.unit-first.ensures) (omega arith) c.from_u32.ensures.value
