@@ -11,5 +11,5 @@ returns c =
     let us = units c.args.text.now in
     let held = c.args.selections.now in
     let h : length held.items ≤ c.room.result = omega arith in
-    c.number-among.ensures
+    c.number_among.ensures
     ∙ ap (λ z. numbered z (word_of us c.args.name).text) (all_held (selections_of us held) c.room.result (no_more (selection_of us) held.items held.len c.room.result h))

@@ -6,7 +6,7 @@ use Rattle.checks.specs.Faults.{conds_faults}
 use Rattle.checks.proofs.Held.{next_item, no_item, no_longer}
 use Rattle.checks.proofs.Turns.{cond_more, cond_none}
 use Rattle.checks.proofs.patterns.with_conds.Goals as goal
-use Rattle.checks.proofs.patterns.with_conds.Goals.{in-Some, in-default}
+use Rattle.checks.proofs.patterns.with_conds.Goals.{in-Some, in_default}
 
 pub loop-i-preserved : goal.loop-i-preserved
 loop-i-preserved c =
@@ -14,8 +14,8 @@ loop-i-preserved c =
     let held = c.args.conds.now in
     elim c.match-get.branch [
       | in-Some w ↦
-          cond_more (conds_of us held) c.loop-i.i _ (next_item (cond_of us) (cond_items held) c.loop-i.i _ w.in-Some.ensures) c.loop-i.so_far c.match-get.so_far (w.so-far-is ∙ w.with-cond-so-far.ensures) ∙ c.loop-i.invariant
-      | in-default w ↦ cond_none (conds_of us held) c.loop-i.i (no_item (cond_of us) (cond_items held) c.loop-i.i w.in-default.ensures) c.loop-i.so_far c.match-get.so_far w.so-far-is ∙ c.loop-i.invariant
+          cond_more (conds_of us held) c.loop-i.i _ (next_item (cond_of us) (cond_items held) c.loop-i.i _ w.in-Some.ensures) c.loop-i.so_far c.match-get.so_far (w.so_far-is ∙ w.with_cond-so_far.ensures) ∙ c.loop-i.invariant
+      | in_default w ↦ cond_none (conds_of us held) c.loop-i.i (no_item (cond_of us) (cond_items held) c.loop-i.i w.in_default.ensures) c.loop-i.so_far c.match-get.so_far w.so_far-is ∙ c.loop-i.invariant
     ]
 
 pub returns : goal.returns

@@ -13,6 +13,6 @@ pub returns-in-New : goal.returns-in-New
 returns-in-New c =
     let us = units c.args.text.now in
     let faults : Expr → List Fault = λ e. expr_faults (selections_of us c.args.selections.now) (expr_of us e) in
-    earliest_three c.args.known c.with-expr-so-far.result c.with-expr-so-far-in-New.result c.with-expr.result (faults c.in-New.claim-type) (faults c.in-New.value) (faults c.in-New.value_type)
-    c.with-expr-so-far.ensures c.with-expr-so-far-in-New.ensures c.with-expr.ensures
+    earliest_three c.args.known c.with_expr-so_far.result c.with_expr-so_far-in-New.result c.with_expr.result (faults c.in-New.claim_type) (faults c.in-New.value) (faults c.in-New.value_type)
+    c.with_expr-so_far.ensures c.with_expr-so_far-in-New.ensures c.with_expr.ensures
     ∙ ap (λ a. earliest_from c.args.known (action_faults (selections_of us c.args.selections.now) (action_of us a))) (sym c.in-New.is)

@@ -7,7 +7,7 @@ use Rattle.checks.specs.Faults.{selections_faults}
 use Rattle.checks.proofs.Held.{next_item, no_item, no_more}
 use Rattle.checks.proofs.Turns.{selection_more, selection_none}
 use Rattle.checks.proofs.rules.with_selections.Goals as goal
-use Rattle.checks.proofs.rules.with_selections.Goals.{in-Some, in-default}
+use Rattle.checks.proofs.rules.with_selections.Goals.{in-Some, in_default}
 
 pub loop-i-preserved : goal.loop-i-preserved
 loop-i-preserved c =
@@ -17,10 +17,10 @@ loop-i-preserved c =
     elim c.match-get.branch [
       | in-Some w ↦
           let e = w.in-Some.ensures ∙ ap (slice_get (selection_items held)) c.from.ensures in
-          selection_more (selections_of us held) i _ (next_item (selection_of us) (selection_items held) i _ e) c.loop-i.so_far c.match-get.so_far (w.so-far-is ∙ w.with-selection-so-far.ensures) ∙ c.loop-i.invariant
-      | in-default w ↦
-          let e = w.in-default.ensures ∙ ap (slice_get (selection_items held)) c.from.ensures in
-          selection_none (selections_of us held) i (no_item (selection_of us) (selection_items held) i e) c.loop-i.so_far c.match-get.so_far w.so-far-is ∙ c.loop-i.invariant
+          selection_more (selections_of us held) i _ (next_item (selection_of us) (selection_items held) i _ e) c.loop-i.so_far c.match-get.so_far (w.so_far-is ∙ w.with_selection-so_far.ensures) ∙ c.loop-i.invariant
+      | in_default w ↦
+          let e = w.in_default.ensures ∙ ap (slice_get (selection_items held)) c.from.ensures in
+          selection_none (selections_of us held) i (no_item (selection_of us) (selection_items held) i e) c.loop-i.so_far c.match-get.so_far w.so_far-is ∙ c.loop-i.invariant
     ]
 
 pub returns : goal.returns
