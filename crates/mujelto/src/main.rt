@@ -8,6 +8,7 @@ mod files;
 use commands::run;
 use failures::Failure;
 use std::env;
+use std::process::ExitCode;
 
 // The words after the program's name.
 fn words(rt: &HostRuntime) -> Result<Vec<String>, Failure> {
@@ -15,9 +16,13 @@ fn words(rt: &HostRuntime) -> Result<Vec<String>, Failure> {
     Ok(all)
 }
 
-fn main(rt: HostRuntime) -> Result<(), Failure> {
-    match words(&rt) {
+fn main(rt: HostRuntime) -> ExitCode {
+    let told = match words(&rt) {
         Ok(all) => failures::told(&rt, run(&rt, all.as_slice())),
         Err(failure) => failures::told(&rt, Err(failure)),
+    };
+    match told {
+        Ok(()) => ExitCode::SUCCESS,
+        Err(_) => ExitCode::FAILURE,
     }
 }

@@ -12,5 +12,5 @@ returns c =
     let us = units c.args.text.now in
     let r = c.args.rule.now in
     let ss = lay_selections (selections_of us r.selections) in
-    put_as ((Rule r.at c.action-does.result ∷ []) ++ ss) (lay_rule (rule_of us r)) c.args.sink.now c.put-selections.new.sink c.put-selections.new.sink (ap (λ a. Rule r.at a ∷ ss) c.action-does.ensures) refl
-    (put_twice (Rule r.at c.action-does.result ∷ []) ss c.args.sink.now c.put.new.self c.put-selections.new.sink c.put.ensures c.put-selections.ensures)
+    put_as ((Rule r.at c.action-does.result ∷ []) ++ ss) (lay_rule (rule_of us r)) c.args.sink.now c.put_selections.new.sink c.put_selections.new.sink (ap (λ a. Rule r.at a ∷ ss) c.action-does.ensures) refl
+    (put_twice (Rule r.at c.action-does.result ∷ []) ss c.args.sink.now c.put.new.self c.put_selections.new.sink c.put.ensures c.put_selections.ensures)

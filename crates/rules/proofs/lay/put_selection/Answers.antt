@@ -10,5 +10,5 @@ use Rattle.rules.proofs.lay.put_selection.Goals as goal
 pub returns : goal.returns
 returns c =
     let cs = lay_conds (conds_of (units c.args.text.now) c.args.selection.now.conds) in
-    put_as (Selection ∷ cs) (of_selection (units c.args.text.now) c.args.selection.now) c.args.sink.now c.put-conds.new.sink c.put-conds.new.sink (ap (λ l. Selection ∷ l) (sym (append-nil cs))) refl
-    (put_twice (Selection ∷ []) cs c.args.sink.now c.put.new.self c.put-conds.new.sink c.put.ensures c.put-conds.ensures)
+    put_as (Selection ∷ cs) (of_selection (units c.args.text.now) c.args.selection.now) c.args.sink.now c.put_conds.new.sink c.put_conds.new.sink (ap (λ l. Selection ∷ l) (sym (append-nil cs))) refl
+    (put_twice (Selection ∷ []) cs c.args.sink.now c.put.new.self c.put_conds.new.sink c.put.ensures c.put_conds.ensures)

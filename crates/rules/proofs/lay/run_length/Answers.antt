@@ -3,8 +3,8 @@ use Rattle.std.proofs.lemmas.List.{length-take}
 use Rattle.units.specs.Units.{units}
 use Rattle.rules.proofs.lay.run_length.Goals as goal
 
-pub overflow-cast-result : goal.overflow-cast-result
-overflow-cast-result c =
+pub overflow_cast-result : goal.overflow_cast-result
+overflow_cast-result c =
     let us = drop c.from.result (units c.args.text.now) in
-    let e : c.count.result ≡ min c.args.len (length us) = c.count.ensures ∙ ap length c.run-of-run.ensures ∙ length-take c.args.len us in
+    let e : c.count.result ≡ min c.args.len (length us) = c.count.ensures ∙ ap length c.run_of-run.ensures ∙ length-take c.args.len us in
     omega arith

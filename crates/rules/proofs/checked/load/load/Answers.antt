@@ -4,8 +4,8 @@ use Rattle.rules.specs.Outcome.{Fills}
 use Rattle.rules.proofs.Empty.{empty_tree, empty_accepted, empty_laid}
 use Rattle.rules.proofs.checked.load.load.Goals as goal
 
-pub invariant-of-result-in-Err : goal.invariant-of-result-in-Err
-invariant-of-result-in-Err c =
+pub invariant_of-result-in-Err : goal.invariant_of-result-in-Err
+invariant_of-result-in-Err c =
     let ps = c.fill-filled.result.parts.now in
     let P : Result ℕ Fault → Type 0 = λ r. Fills c.args.text.now ps r in
     let k = subst P c.in-Err.is c.fill-filled.ensures.fills in
