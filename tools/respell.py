@@ -40,6 +40,18 @@ OTHER = {
     "patternCause": "cause_of_pattern",
 }
 
+# members of traits, and names that an import gives: they stand at no definition's head
+ALSO = {
+    "floorOf": "floor_of",
+    "capOf": "cap_of",
+    "pastClaim": "past_claim",
+    "mistakeWords": "mistake_words",
+    "isSpecial": "is_special",
+    "stopsAt": "stops_at",
+    "simpleAt": "simple_at",
+    "escapedAt": "escape_at",
+}
+
 HEAD = re.compile(r"\s*(?:(?:abbrev|unfoldable|pub) )*(record |data )?([^\s(){}\[\];,:.|=]+)\s*(?:\{[^}]*\}\s*|\([^)]*\)\s*)*:\s(.*)")
 NAME = r"(?<![\w'\-◌])({})(?![\w'\-◌])"
 
@@ -91,7 +103,7 @@ def library():
 
 
 def table():
-    turn = {}
+    turn = dict(ALSO)
     theirs = library()
     for name, (f, fact, goal) in definitions().items():
         if goal or name in theirs or not re.match(r"[A-Za-z]", name):

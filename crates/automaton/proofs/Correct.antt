@@ -1,5 +1,5 @@
 -- The automaton's run says whether the text matches.
-use Rattle.std.proofs.Common.{◌≡◌, ℕ, zero, suc, ◌+◌, ◌-◌, ◌*◌, ◌/◌, ◌%◌, ◌^◌, ◌<◌, ◌≤◌, min, Bool, true, false, cond, not, ◌&&◌, ◌||◌, eqb, ltb, ◌⊎◌, List, [], ◌∷◌, ◌++◌, length, get_or, Decides, sym, refl, ap, ◌∙◌, subst, inl, inr, true≢false, append_assoc, add-zero, zero-add, arith, length-append, le-ltb, lt-ltb, eq-eqb, ne_eqb, eqb-true}
+use Rattle.std.proofs.Common.{◌≡◌, ℕ, zero, suc, ◌+◌, ◌-◌, ◌/◌, ◌%◌, ◌^◌, ◌<◌, ◌≤◌, min, Bool, true, false, cond, not, ◌&&◌, eqb, ltb, ◌⊎◌, List, [], ◌∷◌, ◌++◌, length, get_or, Decides, sym, refl, ap, ◌∙◌, subst, inl, inr, true≢false, add-zero, zero-add, arith, length-append, le-ltb, lt-ltb, eq-eqb, ne_eqb}
 use mathlib.Core.Bool.{false≢true}
 use mathlib.Core.List.{nil≢cons, cons≢nil, head-eq_of_cons-eq, tail-eq_of_cons-eq}
 use lib.Bits.{bit_and, bit_or}
@@ -11,10 +11,10 @@ use Rattle.automaton.specs.declared.Atom.{Atom}
 use Rattle.automaton.specs.declared.Atom.TheVariants.{Plain}
 use Rattle.automaton.specs.Language.{fits, Tree, empty, one, either, followed, star, plus, opt, Many, Then, In, After, Matches}
 use Rattle.automaton.specs.declared.Automaton.{Automaton}
-use Rattle.automaton.specs.Places.{bit, Has, size, null, first, last, Link, links, Linked, atoms_of, Stands}
+use Rattle.automaton.specs.Places.{bit, Has, size, null, first, last, links, Linked, atoms_of, Stands}
 use Rattle.automaton.specs.Run.{room, masked, reached, stepped, ends as stops, run}
 use Rattle.automaton.proofs.Sets.{bit-bit_and}
-use Rattle.automaton.proofs.Holds.{has_split, has_left, has_right, has_none, has_one, only_one, and_true, or_true, has_if, empty_left, null_of, of_null, Lang, Holds, Ahead, enter, leave, ends, follows, At, Onward, goes}
+use Rattle.automaton.proofs.Holds.{has_split, has_left, has_right, has_none, has_one, only_one, and_true, has_if, empty_left, null_of, of_null, Lang, Holds, enter, leave, ends, follows, At, goes}
 
 -- what a number other than 0 holds
 some_bit : (f s : ℕ) → s ≤ f → 0 < s → (p : ℕ) × Has s p

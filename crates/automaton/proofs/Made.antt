@@ -1,11 +1,9 @@
 -- The automaton that is computed from a tree stands for it.
-use Rattle.std.proofs.Common.{◌≡◌, ℕ, zero, suc, ◌+◌, ◌<◌, ◌≤◌, Bool, true, false, cond, ◌⊎◌, List, [], ◌∷◌, length, get_or, take, Decides, sym, refl, ap, ◌∙◌, subst, inl, inr, add-zero, zero-add, arith}
-use mathlib.Core.Bool.{false≢true}
+use Rattle.std.proofs.Common.{◌≡◌, ℕ, zero, suc, ◌+◌, ◌<◌, ◌≤◌, Bool, true, false, cond, List, [], ◌∷◌, get_or, Decides, sym, refl, ap, ◌∙◌, subst, inl, inr, add-zero, zero-add, arith}
 use lib.Bits.{bit_or}
 use Rattle.std.proofs.lemmas.List.{take_all}
-use Rattle.automaton.specs.declared.Automaton.{Automaton}
 use Rattle.automaton.specs.Language.{Tree, Matches}
-use Rattle.automaton.specs.Places.{bit, Has, size, atoms_of, null, first, last, Link, links, Linked, Stands}
+use Rattle.automaton.specs.Places.{bit, Has, size, atoms_of, Link, links, Linked, Stands}
 use Rattle.automaton.specs.Run.{run}
 use Rattle.automaton.specs.Made.{next, table, made}
 use Rattle.automaton.proofs.Holds.{has_none, has_split, has_left, has_right}

@@ -1,5 +1,5 @@
 -- One turn of each loop.
-use Rattle.std.proofs.Common.{◌≡◌, ℕ, suc, ◌+◌, ◌^◌, ◌<◌, ◌≤◌, Bool, true, false, cond, not, ◌&&◌, List, length, get_or, drop, sym, refl, ap, ◌∙◌, add-one}
+use Rattle.std.proofs.Common.{◌≡◌, ℕ, ◌+◌, ◌^◌, ◌<◌, ◌≤◌, Bool, true, false, cond, not, ◌&&◌, List, length, get_or, drop, sym, ap, ◌∙◌, add-one}
 use lib.Bits.{bit_or}
 use Rattle.std.proofs.lemmas.List.{drop_all, drop_more}
 use Rattle.automaton.specs.declared.Atom.{Atom}

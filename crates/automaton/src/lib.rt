@@ -1,6 +1,8 @@
 // Whether a text matches a tree: the places of the tree's atoms that a run may have reached, as the bits of a set.
 // Each unit of the text takes one step from set to set, so the cost is the units of the text times the places.
 // An automaton stands for a tree with its anchors; what matching means is defined on the tree alone.
+#![tactic(auto)]
+
 ghost use Rattle.std.specs.Prelude.{◌≡◌, Bool, if◌then◌else◌, Decides};
 ghost use Rattle.units.specs.Units.{units};
 ghost use Rattle.automaton.specs.Language.{fits, Tree, Matches};

@@ -1,6 +1,6 @@
 -- The earliest of some faults: the first by place, and at one place the one of the smaller number.
 use Rattle.std.specs.Prelude.{◌≡◌, ◌≤◌, Bool, cond, ◌&&◌, ◌||◌, ◌⊎◌, List, [], ◌∷◌, Some, None, Option, ◌==◌, nat_lt}
-use Rattle.std.specs.List.{AllByRecursion as All}
+use Rattle.std.specs.List.{AllByRecursion}
 use Rattle.faults.specs.Numbers.{number_of}
 use Rattle.faults.specs.declared.Fault.{Fault}
 
@@ -28,7 +28,7 @@ pub record NotBefore (f g : Fault) : Type 0 where
 
 pub record First (fs : List Fault) (f : Fault) : Type 0 where
   pub among : Among fs f
-  pub first : All (NotBefore f) fs
+  pub first : AllByRecursion (NotBefore f) fs
 
 -- none exactly where there is no fault
 abbrev pub Earliest : List Fault → Option Fault → Type 0

@@ -1,5 +1,7 @@
 // The checks of a rule that the grammar derives: its identifiers and its patterns.
 // Every fault of the rule is judged, and the one of the earliest place is told; at one place, that of the smaller number.
+#![tactic(auto)]
+
 mod earliest;
 mod names;
 mod patterns;

@@ -1,6 +1,8 @@
 // A claim: the text of its type, its value-type word as it was written, and its value.
 // A record holds its texts by origin, place and length; the rule text and the packet give them back.
 // A source means a list of records, at most 512, whatever it is made of.
+#![tactic(auto)]
+
 mod records;
 mod sources;
 mod texts;

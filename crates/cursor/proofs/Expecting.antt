@@ -1,5 +1,5 @@
 -- One word, by what stands ahead.
-use Rattle.std.proofs.Common.{◌≡◌, ℕ, ◌+◌, ◌-◌, Bool, true, false, eqb, List, [], ◌∷◌, take, drop, sym, refl, ap, ◌∙◌, subst}
+use Rattle.std.proofs.Common.{◌≡◌, ℕ, Bool, true, false, eqb, List, ◌∷◌, sym, refl, ap, ◌∙◌, subst}
 use Rattle.words.specs.Places.{from}
 use Rattle.words.specs.Terminals.{mark}
 use Rattle.words.specs.Tokens as W
@@ -7,8 +7,6 @@ use Rattle.words.specs.Tokens.{Lies}
 use Rattle.words.specs.Words.{Word}
 use Rattle.words.specs.declared.terminals.Slip.{Slip}
 use Rattle.words.specs.declared.terminals.Terminal.{Terminal}
-use Rattle.words.specs.declared.terminals.Terminal.TheVariants.{Identifier, Literal}
-use Rattle.words.specs.Terminals.{terminal}
 use Rattle.words.specs.declared.tokens.Lexeme.{Lexeme}
 use Rattle.words.specs.declared.tokens.Token.{Token}
 use Rattle.words.specs.declared.tokens.Token.TheVariants as token

@@ -1,5 +1,5 @@
 -- A list with a limit, read by a loop: what is read and what is left give the whole.
-use Rattle.std.proofs.Common.{◌≡◌, ℕ, zero, suc, Bool, true, false, cond, ◌||◌, List, [], ◌∷◌, ◌++◌, sym, refl, ap, ◌∙◌, append_assoc, append-nil}
+use Rattle.std.proofs.Common.{◌≡◌, ℕ, suc, Bool, true, false, cond, List, [], ◌∷◌, ◌++◌, sym, refl, ap, ◌∙◌, append_assoc, append-nil}
 use Rattle.words.specs.Words.{Word}
 use Rattle.words.specs.declared.terminals.Terminal.{Terminal}
 use Rattle.grammar.specs.Readers.{Got, got, useless, past, Reads, t, next, many, return, stop, past_limit, ◌>>◌, ◌starts◌else◌}

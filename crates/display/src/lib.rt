@@ -1,6 +1,8 @@
 // Lines for people: refusals in words, texts in the notation of the claims list, and a table of claims.
 // A unit becomes a character or an escape, a text a bare word or a quoted text, a claim a row.
 // What is shown of a claim can be pasted into a claims list.
+#![tactic(auto)]
+
 mod letters;
 mod messages;
 mod tables;

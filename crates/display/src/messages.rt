@@ -1,7 +1,7 @@
 // The lines that tell a verdict: accepted, refused with its cause, or where a claims list is wrong.
 ghost use Rattle.std.specs.Prelude.{◌≡◌, ◌++◌, IfOk, string_bytes, codes, decimal};
 ghost use Rattle.faults.specs.Numbers.{number_of};
-ghost use Rattle.listing.specs.Words.{words_of as mistakeWords};
+ghost use Rattle.listing.specs.Words.{words_of as mistake_words};
 ghost use Rattle.display.specs.Words.{words_of};
 
 use faults::{Cause, Fault};
@@ -59,7 +59,7 @@ pub fn refused(heap: Global, fault: Fault) -> Result<String, AllocError>
 
 // Where a claims list is wrong, and what is.
 pub fn misplaced(heap: Global, file: &str, found: Misplaced) -> Result<String, AllocError>
-    ensures { IfOk result (λ s. string_bytes s ≡ file.now ++ (codes ":" ++ (decimal found.line ++ (codes ":" ++ (decimal found.column ++ (codes ": " ++ mistakeWords found.mistake)))))) }
+    ensures { IfOk result (λ s. string_bytes s ≡ file.now ++ (codes ":" ++ (decimal found.line ++ (codes ":" ++ (decimal found.column ++ (codes ": " ++ mistake_words found.mistake)))))) }
 {
     let line = found.line;
     let column = found.column;

@@ -1,6 +1,8 @@
 // What a refusal says: its cause, the place, and in a step the rule and the tuple.
 // A cause has a number, and the number's tens digit is the layer that refused.
 // Every refusal of the product is one of these values, and rises unchanged.
+#![tactic(auto)]
+
 ghost use Rattle.std.specs.Prelude.{◌/◌, ◌≡◌};
 ghost use Rattle.faults.specs.Numbers.{number_of, layer_of, digit_of};
 ghost use Rattle.faults.specs.At.{fault_at};

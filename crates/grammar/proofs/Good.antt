@@ -1,9 +1,8 @@
 -- A parser that is exact for a relation, and that the combinators keep that.
-use Rattle.std.proofs.Common.{◌≡◌, ℕ, zero, suc, Bool, true, false, cond, not, ◌&&◌, ◌||◌, eqb, ◌⊎◌, List, [], ◌∷◌, ◌++◌, sym, refl, ap, ◌∙◌, subst, inl, inr, ⊎_elim, append_assoc, append-nil, arith, eq-eqb, true-eqb}
+use Rattle.std.proofs.Common.{◌≡◌, ℕ, Bool, true, false, cond, not, ◌&&◌, ◌||◌, eqb, ◌⊎◌, List, [], ◌∷◌, ◌++◌, sym, refl, ap, ◌∙◌, subst, inl, inr, ⊎_elim, append_assoc, append-nil, arith, eq-eqb, true-eqb}
 use Rattle.words.specs.Words.{Word}
 use Rattle.words.specs.Terminals.{Kind, terminal, unreadable, mark, is}
 use Rattle.words.specs.declared.terminals.Terminal.{Terminal}
-use Rattle.grammar.specs.Parse as P
 use Rattle.grammar.specs.Readers.{Got, got, useless, past, Reads, return, ◌>>=◌, ◌starts◌else◌, t, next}
 use Rattle.grammar.specs.Grammar.{Is}
 use Rattle.grammar.specs.Exact.{Begins, Never}

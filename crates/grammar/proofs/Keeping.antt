@@ -1,7 +1,7 @@
 -- What holds of every word that is read holds of every word of the tree.
 use Rattle.std.proofs.Common.{◌≡◌, ℕ, zero, suc, Bool, true, false, cond, leb, List, [], ◌∷◌, length, sym, refl, ap, ◌∙◌, subst, arith}
 use Rattle.std.proofs.lemmas.Bool.{eqb-true}
-use Rattle.std.specs.List.{AllByRecursion as All}
+use Rattle.std.specs.List.{AllByRecursion}
 use Rattle.words.specs.Terminals.{Kind, terminal, unreadable, mark, is}
 use Rattle.words.specs.Words.{Word, words}
 use Rattle.words.specs.declared.terminals.Terminal.{Terminal}
@@ -17,12 +17,12 @@ use Rattle.grammar.proofs.Quoting.{quoted, QuoteLies, words_lie}
 module _ (us : List ℕ) where
   -- of what is read P holds, and the words that are left still lie in the text
   abbrev After : {A : Type 0} → (A → Type 0) → Got A → Type 0
-  After P (got x rest) = P x × All (QuoteLies us) rest
+  After P (got x rest) = P x × AllByRecursion (QuoteLies us) rest
   After P (useless rest) = Unit {0}
   After P (past rest) = Unit {0}
 
   record Keeps {A : Type 0} (p : Reads A) (P : A → Type 0) : Type 0 where
-    after : (ws : List Word) → All (QuoteLies us) ws → After P (p ws)
+    after : (ws : List Word) → AllByRecursion (QuoteLies us) ws → After P (p ws)
 
   abbrev Any : {A : Type 0} → A → Type 0
   Any x = Unit {0}
@@ -53,12 +53,12 @@ module _ (us : List ℕ) where
   abbrev WordIs : Terminal → Word → Type 0
   WordIs k w = QuoteLies us w × (is k w.kind ≡ true)
 
-  after_word : (k : Terminal) (w : Word) (ws : List Word) (b : Bool) → is k w.kind ≡ b → QuoteLies us w → All (QuoteLies us) ws
+  after_word : (k : Terminal) (w : Word) (ws : List Word) (b : Bool) → is k w.kind ≡ b → QuoteLies us w → AllByRecursion (QuoteLies us) ws
       → After (WordIs k) (elim b [ true ↦ got w ws | false ↦ useless (w ∷ ws) ])
   after_word k w ws true e q a = ((q, e), a)
   after_word k w ws false e q a = tt
 
-  word_after : (k : Terminal) (ws : List Word) → All (QuoteLies us) ws → After (WordIs k) (t k ws)
+  word_after : (k : Terminal) (ws : List Word) → AllByRecursion (QuoteLies us) ws → After (WordIs k) (t k ws)
   unfolding t
   word_after k [] a = tt
   word_after k (w ∷ ws) a = after_word k w ws (is k w.kind) refl a.0 a.1
@@ -78,7 +78,7 @@ module _ (us : List ℕ) where
   quote : (k : Terminal) → leb 21 (mark k) ≡ true → Keeps (t k) (Lies us)
   quote k h = record { after = λ ws a. weaken (λ w q. q.0 (is_quoted k w.kind h q.1)) (t k ws) (word_after k ws a) }
 
-  several : {A : Type 0} (k : Terminal) (ks : List Terminal) (p : Reads A) (P : A → Type 0) → Keeps p P → (room : ℕ) → Keeps (many k ks p room) (All P)
+  several : {A : Type 0} (k : Terminal) (ks : List Terminal) (p : Reads A) (P : A → Type 0) → Keeps p P → (room : ℕ) → Keeps (many k ks p room) (AllByRecursion P)
   unfolding many
   several k ks p P h zero = either ks over stops
   several k ks p P h (suc room) = then h (λ x a. then (either (k ∷ []) (then (word k) (λ _ _. several k ks p P h room)) (returns [] tt)) (λ xs b. returns (x ∷ xs) (a, b)))
@@ -124,17 +124,17 @@ module _ (us : List ℕ) where
       (then val_type_cond (λ y b. then (word _) (λ _ _. then val_cond (λ v a. returns _ (a, b))))))
       type_cond
 
-  opt_cond_list : Keeps P.OptCondList (All (CondLies us))
+  opt_cond_list : Keeps P.OptCondList (AllByRecursion (CondLies us))
   opt_cond_list = either conds_begin (several Comma conds_begin P.ACond (CondLies us) a_cond 4) (returns [] tt)
 
-  body : Keeps P.SelConditionBody (All (CondLies us))
+  body : Keeps P.SelConditionBody (AllByRecursion (CondLies us))
   body = then (word _) (λ _ _. then opt_cond_list (λ cs h. then (word _) (λ _ _. returns cs h)))
 
   sel_condition : Keeps P.SelCondition (SelectionLies us)
   sel_condition =
       either (OpenSquare ∷ []) (then body (λ cs h. returns _ h)) (then (word _) (λ i _. then (word _) (λ _ _. then body (λ cs h. returns _ h))))
 
-  conditions : Keeps P.Conditions (All (SelectionLies us))
+  conditions : Keeps P.Conditions (AllByRecursion (SelectionLies us))
   conditions = either selections_begin (several And selections_begin P.SelCondition (SelectionLies us) sel_condition 4) (returns [] tt)
 
   -- actions
@@ -185,7 +185,7 @@ module _ (us : List ℕ) where
 
   -- rules
   abbrev BodyLies : List Selection × Action → Type 0
-  BodyLies b = All (SelectionLies us) b.0 × ActionLies us b.1
+  BodyLies b = AllByRecursion (SelectionLies us) b.0 × ActionLies us b.1
 
   rule_body : Keeps P.RuleBody BodyLies
   rule_body = then conditions (λ ss a. then (word _) (λ _ _. then rule_action (λ x b. then (word _) (λ _ _. returns (ss, x) (a, b)))))
@@ -193,7 +193,7 @@ module _ (us : List ℕ) where
   a_rule : Keeps ARule (RuleLies us)
   a_rule = then (at_place P.RuleBody BodyLies rule_body) (λ r h. returns _ (record { selections = h.0; action = h.1 }))
 
-  rule_list : (room : ℕ) → Keeps (Rules room) (All (RuleLies us))
+  rule_list : (room : ℕ) → Keeps (Rules room) (AllByRecursion (RuleLies us))
   unfolding Rules
   rule_list zero = either rules_begin over (returns [] tt)
   rule_list (suc room) = either rules_begin (then a_rule (λ r a. then (rule_list room) (λ rs b. returns (r ∷ rs) (a, b)))) (returns [] tt)
@@ -203,8 +203,8 @@ module _ (us : List ℕ) where
   ended n qs rs [] e = cc
   ended n qs rs (w ∷ ws) e = let z : ◌≡◌ {A = ℕ} 0 1 = cc in absurd (omega arith)
 
-  told : (n : ℕ) (g : Got (List Rule)) (rs : List Rule) → After (All (RuleLies us)) g → whole n g ≡ rules rs → All (RuleLies us) rs
-  told n (got qs ws) rs a e = subst (All (RuleLies us)) (ended n qs rs ws e) a.0
+  told : (n : ℕ) (g : Got (List Rule)) (rs : List Rule) → After (AllByRecursion (RuleLies us)) g → whole n g ≡ rules rs → AllByRecursion (RuleLies us) rs
+  told n (got qs ws) rs a e = subst (AllByRecursion (RuleLies us)) (ended n qs rs ws e) a.0
   told n (useless ws) rs a e = let z : ◌≡◌ {A = ℕ} 0 1 = cc in absurd (omega arith)
   told n (past ws) rs a e = let z : ◌≡◌ {A = ℕ} 0 1 = cc in absurd (omega arith)
 

@@ -1,18 +1,19 @@
 -- The productions with limits, up to the whole text.
-use Rattle.std.proofs.Common.{◌≡◌, ℕ, zero, suc, ◌≤◌, Bool, true, false, cond, ◌||◌, ◌⊎◌, List, [], ◌∷◌, ◌++◌, length, Some, None, sym, refl, ap, ◌∙◌, subst, inl, inr, ⊎_elim, append_assoc, append-nil, arith}
+use Rattle.std.proofs.Common.{◌≡◌, ℕ, zero, suc, ◌≤◌, Bool, true, false, cond, ◌||◌, List, [], ◌∷◌, ◌++◌, length, Some, None, sym, refl, ap, ◌∙◌, subst, inr, ⊎_elim, append_assoc, append-nil, arith}
+use Rattle.std.specs.List.{AllByRecursion}
 use Rattle.words.specs.Words.{Word}
 use Rattle.words.specs.declared.terminals.Terminal.{Terminal}
 use Rattle.words.specs.declared.terminals.Terminal.TheVariants.{Imply, Semicolon, Colon, Comma, And, OpenSquare, CloseSquare, OpenRound, CloseRound, Equal, Assign, KeyIssue, KeyClaim, KeyType, KeyValue, KeyValueType, Identifier, Literal, Int64Type}
 use Rattle.grammar.specs.Tree as Tree
 use Rattle.grammar.specs.Tree.{Selection, Action, Rule}
 use Rattle.grammar.specs.Parse as P
-use Rattle.grammar.specs.Readers.{Got, got, useless, past, Reads, return, ◌>>=◌, t, next, first_place, many, past_limit, stop}
+use Rattle.grammar.specs.Readers.{got, useless, past, Reads, next, many, past_limit, stop}
 use Rattle.grammar.specs.Parse.{conds_begin, selections_begin, rules_begin}
 use Rattle.grammar.specs.Grammar as G
 use Rattle.grammar.specs.Grammar.{Is, Listed}
-use Rattle.grammar.specs.Exact.{All, Begins, Never, Beyond, too_many, inside, later, CondPast, PastInSelection, in_bare, in_named, SelectionPast, RulePast, too_many_rules, inside_rule, later_rule, SelectionWithin, RuleWithin}
+use Rattle.grammar.specs.Exact.{Begins, Never, Beyond, too_many, inside, later, CondPast, PastInSelection, in_bare, in_named, SelectionPast, SelectionWithin}
 use Rattle.grammar.proofs.Steps.{useless_got, past_got, past_useless, useless_same, past_same, pick, way, next_first, first}
-use Rattle.grammar.proofs.Good.{Mode, kept, free, Rel, One, one, Ret, ret, Seq, seq, Map, mapped, Alt, left, right, PastSeq, in_first, in_second, PastAlt, in_left, in_right, Good, Front, Inside, Lost, More, Among, any, any_is, word, returned, put, row, alt, either, same, no_others, disjoint, into_right, not_both, one_of_two, nothing_next, or_true}
+use Rattle.grammar.proofs.Good.{Mode, kept, free, Rel, One, one, Ret, ret, Seq, seq, Map, mapped, Alt, left, right, PastSeq, in_first, in_second, PastAlt, in_left, in_right, Good, Lost, More, Among, any, any_is, word, returned, put, row, alt, same, no_others, disjoint, not_both, one_of_two, nothing_next, or_true}
 use Rattle.grammar.proofs.Plain.{a_cond, rule_action}
 
 abbrev pub Kept : Mode → Type 0 → Type 0
@@ -25,7 +26,7 @@ pub record Lim {A : Type 0} (R : Rel A) (ok : A → Type 0) (m : Mode) (ws : Lis
   pub fits : Kept m (ok x)
 
 abbrev pub Fits : {A : Type 0} → (A → Type 0) → ℕ → List A → Type 0
-Fits ok n xs = (length xs ≤ n) × All ok xs
+Fits ok n xs = (length xs ≤ n) × AllByRecursion ok xs
 
 pub keep : {S T : Type 0} (m : Mode) → (S → T) → Kept m S → Kept m T
 keep kept f s = f s
@@ -237,7 +238,7 @@ begins_rule w h =
     selected b = record { more = _; says = _; holds = G.rule_body (G.selections (Listed.one b.holds)) (any_is Imply) an_action (any_is Semicolon) }
 
 -- ── conditions in a selection ──
-all_unit : {A : Type 0} (xs : List A) → All (λ _. Unit {0}) xs
+all_unit : {A : Type 0} (xs : List A) → AllByRecursion (λ _. Unit {0}) xs
 all_unit [] = tt
 all_unit (x ∷ xs) = (tt, all_unit xs)
 

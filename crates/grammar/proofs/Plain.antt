@@ -1,5 +1,5 @@
 -- The productions in which no limit stands: each parser is exact for its published production.
-use Rattle.std.proofs.Common.{◌≡◌, List, [], ◌∷◌, ◌++◌, sym, refl, ap, ◌∙◌, subst}
+use Rattle.std.proofs.Common.{List, [], ◌∷◌, refl, subst}
 use Rattle.words.specs.Words.{Word}
 use Rattle.words.specs.declared.terminals.Terminal.{Terminal}
 use Rattle.words.specs.declared.terminals.Terminal.TheVariants.{Comma, Dot, OpenRound, CloseRound, Equal, NotEqual, Matches, NotMatches, Assign, KeyIssue, KeyType, KeyValue, KeyValueType, KeyClaim, Identifier, Literal, Uint64Type, Int64Type, StringType, BooleanType}

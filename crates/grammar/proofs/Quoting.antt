@@ -1,11 +1,11 @@
 -- Every quoted word of a text has the units behind its opening quote.
-use Rattle.std.proofs.Common.{◌≡◌, ℕ, zero, suc, pred, ◌+◌, ◌-◌, ◌≤◌, Bool, true, false, cond, eqb, leb, List, [], ◌∷◌, length, take, drop, Some, None, Option, sym, refl, ap, ◌∙◌, add-one, arith}
+use Rattle.std.proofs.Common.{◌≡◌, ℕ, zero, suc, pred, ◌+◌, ◌≤◌, Bool, true, false, cond, eqb, leb, List, [], ◌∷◌, length, take, drop, Some, None, Option, sym, refl, ap, ◌∙◌, add-one, arith}
 use Rattle.std.proofs.lemmas.List.{length-drop}
 use Rattle.std.proofs.lemmas.Bool.{cond_both}
-use Rattle.std.specs.List.{prefix_len, AllByRecursion as All}
+use Rattle.std.specs.List.{prefix_len, AllByRecursion}
 use Rattle.units.specs.Fold.{same_units}
 use Rattle.words.specs.Terminals.{Kind, terminal, unreadable, mark, symbols, keywords, value_types}
-use Rattle.words.specs.Words.{Word, Spelled, words, words_from, blank, letter, in_name, in_string, begins, spelled_by, no_word, symbol, name_word, name, quoted_word, string, front, spelled}
+use Rattle.words.specs.Words.{Word, Spelled, words_from, blank, letter, in_name, in_string, begins, spelled_by, no_word, symbol, name_word, name, quoted_word, string, front, spelled}
 use Rattle.words.specs.declared.terminals.Slip.TheVariants.{NotClosed, TooLong}
 use Rattle.words.specs.declared.terminals.Terminal.{Terminal}
 use Rattle.grammar.specs.Lying.{Lies}
@@ -36,7 +36,7 @@ front_taken (suc n) (x ∷ us) = front_more x us (take n us) (front_taken n us)
 
 -- a table without quoted words
 abbrev Bare : List (List ℕ × Terminal) → Type 0
-Bare ns = All (λ n. leb 21 (mark n.1) ≡ false) ns
+Bare ns = AllByRecursion (λ n. leb 21 (mark n.1) ≡ false) ns
 
 abbrev BareOne : Option Terminal → Type 0
 BareOne None = Unit {0}
@@ -95,11 +95,11 @@ module _ (us : List ℕ) where
       let l = f.long in
       record { within = omega arith; units = f.same ∙ ap (take (length w.text)) (sym n) }
 
-  pub words_lie : (xs : List ℕ) (more i : ℕ) → drop i us ≡ xs → All (QuoteLies us) (words_from xs more i)
+  pub words_lie : (xs : List ℕ) (more i : ℕ) → drop i us ≡ xs → AllByRecursion (QuoteLies us) (words_from xs more i)
   words_lie [] more i e = tt
   words_lie (u ∷ xs) zero i e =
       let d = next_drop us xs i u e in
-      cond_both (blank u) (words_from xs 0 (suc i)) (record { kind = (spelled u xs).kind; at = i; text = (spelled u xs).text } ∷ words_from xs (pred (spelled u xs).long) (suc i)) (All (QuoteLies us))
+      cond_both (blank u) (words_from xs 0 (suc i)) (record { kind = (spelled u xs).kind; at = i; text = (spelled u xs).text } ∷ words_from xs (pred (spelled u xs).long) (suc i)) (AllByRecursion (QuoteLies us))
       (λ _. words_lie xs 0 (suc i) d)
       (λ _. (λ k. word_lies xs i u _ e refl (spelled_fronted u xs k), words_lie xs (pred (spelled u xs).long) (suc i) d))
   words_lie (u ∷ xs) (suc more) i e = words_lie xs more (suc i) (next_drop us xs i u e)

@@ -1,5 +1,5 @@
 -- Rules, and the rule set.
-use Rattle.std.proofs.Common.{◌≡◌, ℕ, zero, suc, ◌≤◌, Bool, true, false, cond, ◌⊎◌, List, [], ◌∷◌, ◌++◌, length, sym, refl, ap, ◌∙◌, subst, inl, inr, ⊎_elim, append_assoc, append-nil, arith}
+use Rattle.std.proofs.Common.{◌≡◌, ℕ, zero, suc, ◌≤◌, Bool, true, false, cond, ◌⊎◌, List, [], ◌∷◌, ◌++◌, length, sym, refl, ap, ◌∙◌, subst, inl, inr, ⊎_elim, append-nil, arith}
 use Rattle.words.specs.Words.{Word}
 use Rattle.words.specs.declared.terminals.Terminal.{Terminal}
 use Rattle.grammar.specs.Tree.{Rule}
@@ -8,9 +8,9 @@ use Rattle.grammar.specs.Readers.{Got, got, useless, past, Reads, return, next, 
 use Rattle.grammar.specs.Parse.{rules_begin}
 use Rattle.grammar.specs.Grammar as G
 use Rattle.grammar.specs.Exact.{Begins, Never, SelectionPast, RulePast, too_many_rules, inside_rule, later_rule, RuleWithin}
-use Rattle.grammar.proofs.Steps.{pick, way, next_first, first, first_front, useless_got, past_got, past_useless, useless_same, past_same}
-use Rattle.grammar.proofs.Good.{Mode, kept, free, Rel, One, one, Ret, ret, Seq, seq, Map, mapped, Alt, left, right, PastSeq, in_first, in_second, PastAlt, in_left, in_right, Good, Front, Inside, Lost, More, Among, returned, put, row, either, same, begins_as}
-use Rattle.grammar.proofs.Limited.{Kept, Lim, Fits, First, first_of, first_is, Made, RuleWords, rule_words, begins_rule, keep, keep_two, keep_all, SelsWithin}
+use Rattle.grammar.proofs.Steps.{pick, way, next_first, first, useless_got, past_got, past_useless, useless_same, past_same}
+use Rattle.grammar.proofs.Good.{Mode, kept, free, Rel, one, Ret, ret, Seq, seq, Map, mapped, Alt, left, right, PastSeq, in_first, in_second, PastAlt, in_left, in_right, Good, Front, Inside, Lost, More, Among, returned, put, row, either, same}
+use Rattle.grammar.proofs.Limited.{Kept, Lim, Fits, First, first_of, first_is, Made, RuleWords, rule_words, begins_rule, keep, keep_two, keep_all}
 
 pub record Any (ws : List Word) : Type 0 where
 

@@ -1,5 +1,5 @@
 -- The combinators of the parser, inverted.
-use Rattle.std.proofs.Common.{◌≡◌, ℕ, Bool, true, false, cond, ◌||◌, List, [], ◌∷◌, ◌++◌, Some, None, Option, sym, refl, ap, ◌∙◌, subst, arith}
+use Rattle.std.proofs.Common.{◌≡◌, ℕ, Bool, true, false, cond, ◌||◌, List, [], ◌∷◌, ◌++◌, Some, None, Option, sym, refl, ap, ◌∙◌, arith}
 use Rattle.words.specs.Words.{Word}
 use Rattle.words.specs.Terminals.{is}
 use Rattle.words.specs.declared.terminals.Terminal.{Terminal}

@@ -1,22 +1,18 @@
 -- Loading is exact: what is accepted, and where it stops.
-use Rattle.std.proofs.Common.{◌≡◌, ℕ, zero, suc, Bool, true, false, ◌⊎◌, ◌↔◌, List, [], ◌∷◌, ◌++◌, length, sym, refl, ap, ◌∙◌, subst, inl, inr, ⊎_elim, append_assoc, append-nil, arith}
+use Rattle.std.proofs.Common.{◌≡◌, ℕ, ◌↔◌, List, [], ◌∷◌, ◌++◌, length, sym, refl, ap, ◌∙◌, subst, ⊎_elim, append_assoc, append-nil, arith}
 use Rattle.faults.specs.At.{fault_at}
-use Rattle.faults.specs.declared.Cause.{Cause}
 use Rattle.faults.specs.declared.Cause.TheVariants.{OverLimit}
 use Rattle.faults.specs.declared.Fault.{Fault}
 use Rattle.words.specs.Words.{Word, words}
 use Rattle.words.specs.Terminals.{Kind, terminal, unreadable}
-use Rattle.words.specs.declared.terminals.Slip.{Slip}
 use Rattle.words.specs.declared.terminals.Slip.TheVariants.{BeginsNone, NotClosed, TooLong}
 use Rattle.grammar.specs.Tree.{Rule}
 use Rattle.grammar.specs.Parse as P
 use Rattle.grammar.specs.Readers.{Got, got, useless, past, first_place}
-use Rattle.grammar.specs.Whole.{fault_from, cause_of, whole, parse, Parsed, rules, fault}
+use Rattle.grammar.specs.Whole.{fault_from, cause_of, whole, parse, rules, fault}
 use Rattle.grammar.specs.Grammar as G
 use Rattle.grammar.specs.Exact.{Begins, RulePast, Within, NoUse, Stops, Told, at_the_end, at_a_word, at_no_terminal, at_open_string, at_long_word, Passes, Judged, OneTree, Exact}
 use Rattle.grammar.proofs.Steps.{first}
-use Rattle.grammar.proofs.Good.{kept, free, Inside, Lost}
-use Rattle.grammar.proofs.Limited.{Lim}
 use Rattle.grammar.proofs.Rules.{rule_set}
 
 -- ── two ways to cut one list ──

@@ -1,15 +1,14 @@
 -- What loading owes to the published grammar: which texts it accepts, and where it stops at the others.
 use Rattle.std.specs.Prelude.{◌≡◌, ℕ, zero, suc, ◌≤◌, ◌↔◌, List, [], ◌∷◌, ◌++◌, length, ◌≢◌}
+use Rattle.std.specs.List.{AllByRecursion}
 use Rattle.faults.specs.At.{fault_at}
 use Rattle.faults.specs.declared.Cause.TheVariants.{UnknownCharacter, StringNotClosed, WordTooLong, UnexpectedWord, OverLimit}
 use Rattle.faults.specs.declared.Fault.{Fault}
 use Rattle.words.specs.Words.{Word, words}
 use Rattle.words.specs.Terminals.{terminal, unreadable}
-use Rattle.words.specs.declared.terminals.Slip.{Slip}
 use Rattle.words.specs.declared.terminals.Slip.TheVariants.{BeginsNone, NotClosed, TooLong}
 use Rattle.words.specs.declared.terminals.Terminal.{Terminal}
 use Rattle.words.specs.declared.terminals.Terminal.TheVariants.{Comma, And, OpenSquare, Colon, Identifier}
-use Rattle.grammar.specs.Tree as Tree
 use Rattle.grammar.specs.Tree.{Selection, Rule}
 use Rattle.grammar.specs.Whole.{Parsed, parse, rules, fault}
 use Rattle.grammar.specs.Grammar.{Is, Cond, SelCondition, ARule, RuleSet}
@@ -20,19 +19,15 @@ pub record Begins {A : Type 0} (R : List Word → A → Type 0) (front : List Wo
   pub says : A
   pub holds : R (front ++ more) says
 
-abbrev pub All : {A : Type 0} → (A → Type 0) → List A → Type 0
-All P [] = Unit {0}
-All P (x ∷ xs) = P x × All P xs
-
 -- ── the limits ──
 abbrev pub SelectionWithin : Selection → Type 0
 SelectionWithin s = length s.conds ≤ 4
 
 abbrev pub RuleWithin : Rule → Type 0
-RuleWithin r = (length r.selections ≤ 4) × All SelectionWithin r.selections
+RuleWithin r = (length r.selections ≤ 4) × AllByRecursion SelectionWithin r.selections
 
 abbrev pub Within : List Rule → Type 0
-Within rs = (length rs ≤ 32) × All RuleWithin rs
+Within rs = (length rs ≤ 32) × AllByRecursion RuleWithin rs
 
 -- ── an item past its limit: these words come before it, within the limits, and this is its first word ──
 -- in a list of Xs parted by k with room for so many: an X where no room is left; or what P says, within one of the Xs

@@ -1,5 +1,5 @@
 -- Rule texts that are accepted or refused, each with its rules or its fault.
-use Rattle.std.specs.Prelude.{◌≡◌, ℕ, List, [], ◌∷◌, Some, None, codes}
+use Rattle.std.specs.Prelude.{◌≡◌, ℕ, List, [], ◌∷◌, Some, codes}
 use Rattle.faults.specs.At.{fault_at}
 use Rattle.faults.specs.declared.Cause.{Cause}
 use Rattle.faults.specs.declared.Cause.TheVariants.{UnknownCharacter, StringNotClosed, WordTooLong, UnexpectedWord, OverLimit}

@@ -1,6 +1,6 @@
 -- The published grammar: a relation for each production, a constructor for each of its alternatives. A relation says that these words
 -- are that production and say that much.
-use Rattle.std.specs.Prelude.{◌≡◌, ℕ, Bool, true, false, List, [], ◌∷◌, ◌++◌, Some, None}
+use Rattle.std.specs.Prelude.{◌≡◌, true, List, [], ◌∷◌, ◌++◌, Some, None}
 use Rattle.words.specs.Words.{Word}
 use Rattle.words.specs.Terminals.{is}
 use Rattle.words.specs.declared.terminals.Terminal.{Terminal}

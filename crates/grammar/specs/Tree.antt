@@ -1,5 +1,5 @@
 -- What a rule text says: rules of selections of conditions, each with an action.
-use Rattle.std.specs.Prelude.{ℕ, List, [], ◌∷◌, Option}
+use Rattle.std.specs.Prelude.{ℕ, List, Option}
 use Rattle.words.specs.Words.{Word}
 
 pub data Oper : Type 0 where

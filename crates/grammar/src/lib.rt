@@ -1,6 +1,8 @@
 // The rule language: its grammar as relations, its parse as functions, and that the two agree.
 // A text is accepted exactly when it is derivable within the limits, and says one tree.
 // It is refused exactly at the first word without use, or at the first item past its limit.
+#![tactic(auto)]
+
 ghost use Rattle.grammar.specs.Exact.{Exact};
 ghost use Rattle.grammar.specs.Examples.{Examples};
 ghost use Rattle.grammar.specs.Lying.{Lying};

@@ -1,6 +1,8 @@
 // One list for every kind of element, over a buffer that is lent: its first `len` slots are its items.
 // A push is refused exactly when the buffer is full, a cut exactly when it would lengthen.
 // The slots past the items are kept by every call but `blank`.
+#![tactic(auto)]
+
 ghost use Rattle.std.specs.Prelude.{◌≡◌, ℕ, ◌+◌, ◌<◌, ◌≤◌, true, false, [], ◌∷◌, ◌++◌, length, take, replicate, if◌then◌else◌, nat_le, nat_lt, slice_set};
 ghost use Rattle.std.specs.List.{slice_get};
 ghost use Rattle.list.specs.Held.{items, room};

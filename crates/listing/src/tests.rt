@@ -4,7 +4,7 @@ use std::process::Abort;
 use std::test::*;
 
 // The mistake that a list has, with its line and column.
-fn mistake_in(rt: &HostRuntime, list: &str) -> Result<Misplaced, Fail> {
+fn mistake_in(rt: &(impl Abort + AllocGlobal), list: &str) -> Result<Misplaced, Fail> {
     match read(rt.alloc(), list.as_bytes()) {
         Ok(_) => Err(Fail::new("the list was read")),
         Err(ListError::Memory) => Err(Fail::new("no memory")),
@@ -13,16 +13,16 @@ fn mistake_in(rt: &HostRuntime, list: &str) -> Result<Misplaced, Fail> {
 }
 
 fn check_mistake(
-    rt: &HostRuntime,
+    rt: &(impl Abort + AllocGlobal),
     list: &str,
     mistake: Mistake,
     line: usize,
     column: usize,
 ) -> Result<(), Fail> {
     let found = mistake_in(rt, list)?;
-    assert_eq!(found.mistake, mistake);
-    assert_eq!(found.line, line);
-    assert_eq!(found.column, column);
+    assert_eq!(rt; found.mistake, mistake);
+    assert_eq!(rt; found.line, line);
+    assert_eq!(rt; found.column, column);
     Ok(())
 }
 

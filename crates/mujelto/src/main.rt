@@ -1,6 +1,8 @@
 // The program mujelto: packs a claims list, and shows a packet.
 // The words of the command line choose a command; a command reads its files, calls the libraries and prints.
 // A refusal and every other failure end with status 1.
+#![tactic(auto)]
+
 mod commands;
 mod failures;
 mod files;

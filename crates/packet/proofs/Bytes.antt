@@ -2,7 +2,7 @@
 use Rattle.faults.specs.declared.Cause.{Cause}
 use Rattle.std.proofs.Common.{◌≡◌, ℕ, zero, suc, ◌+◌, ◌-◌, ◌*◌, ◌/◌, ◌%◌, ◌^◌, ◌<◌, ◌≤◌, Bool, true, false, cond, eqb, leb, List, [], ◌∷◌, ◌++◌, length, take, drop, ℤ, Some, None, Ok, Err, Option, sym, refl, ap, ◌∙◌, subst, inl, inr, pow-suc, zero-add, arith, length-append, w64, SFits, to_z, of_z}
 use borrow.Author.Gap.{read_sfits}
-use Rattle.std.specs.List.{AllByRecursion as All}
+use Rattle.std.specs.List.{AllByRecursion}
 use Rattle.std.specs.Int.Digits.{number_from_digits, number_from_digits_after}
 use Rattle.std.proofs.lemmas.Int.Digits.{number_lt}
 use Rattle.std.proofs.lemmas.Int.{to_z-of_z, of_z-to_z, ints}
@@ -74,7 +74,7 @@ bytes_units (x ∷ y ∷ bs) n h e =
     ∙ ap (λ v. x ∷ v ∷ unit_bytes (units bs)) r
     ∙ ap (λ t. x ∷ y ∷ t) (bytes_units bs (n - 1) h.1.1 (omega arith))
 
-pub units_wide : (bs : List ℕ) → Bytes bs → All (λ u. u < 65536) (units bs)
+pub units_wide : (bs : List ℕ) → Bytes bs → AllByRecursion (λ u. u < 65536) (units bs)
 units_wide [] h = tt
 units_wide (x ∷ []) h = tt
 units_wide (x ∷ y ∷ bs) h = (omega (arith, h.0, h.1.0), units_wide bs h.1.1)
@@ -94,7 +94,7 @@ text_in-encode us rest =
 pub record TextFront (bs us : List ℕ) : Type 0 where
   pub front : bs ≡ encode_text us ++ drop (size_of_text us) bs
   pub few : length us ≤ 255
-  pub wide : All (λ u. u < 65536) us
+  pub wide : AllByRecursion (λ u. u < 65536) us
 
 text_front : (n : ℕ) (bs : List ℕ) → Bytes (n ∷ bs) → 2 * n ≤ length bs → TextFront (n ∷ bs) (units (take (2 * n) bs))
 text_front n bs h room =

@@ -1,7 +1,7 @@
 -- Claims and packets, both ways: what is written is read back, and what is read was written so.
 use Rattle.faults.specs.declared.Cause.{Cause}
 use Rattle.std.proofs.Common.{◌≡◌, ℕ, zero, suc, ◌+◌, ◌-◌, ◌*◌, ◌/◌, ◌%◌, ◌<◌, ◌≤◌, Bool, true, false, cond, not, ◌||◌, eqb, ltb, List, [], ◌∷◌, ◌++◌, length, drop, Some, None, Ok, Err, Option, Result, sym, refl, ap, ◌∙◌, subst, append_assoc, arith, length-append}
-use Rattle.std.specs.List.{AllByRecursion as All}
+use Rattle.std.specs.List.{AllByRecursion}
 use Rattle.std.proofs.ByRecursion.{All-drop}
 use Rattle.std.proofs.lemmas.List.{drop_at, drop-drop}
 use Rattle.std.proofs.lemmas.Bool.{and_parts, and_from, cond-true, cond-false, le-ltb, ltb-false, eq-eqb, eqb-true}
@@ -125,7 +125,7 @@ module _ (bs : List ℕ) (h : Bytes bs) (c : Claim) where
   claim_read e = read_type (text_in bs) refl e
 
 -- the claims of a body, in order
-pub walk_body : (cs : List Claim) (k at : ℕ) → All Carriable cs → length cs ≤ k → walk k at (body cs) ≡ Ok cs
+pub walk_body : (cs : List Claim) (k at : ℕ) → AllByRecursion Carriable cs → length cs ≤ k → walk k at (body cs) ≡ Ok cs
 walk_body [] zero at h l = refl
 walk_body [] (suc k) at h l = refl
 walk_body (c ∷ cs) zero at h l = absurd (omega arith)
@@ -139,7 +139,7 @@ fails f cs e = let z : ◌≡◌ {A = ℕ} 0 1 = cc in absurd (omega arith)
 
 pub record Body (k : ℕ) (bs : List ℕ) (cs : List Claim) : Type 0 where
   pub spelt : bs ≡ body cs
-  pub each : All Carriable cs
+  pub each : AllByRecursion Carriable cs
   pub few : length cs ≤ k
 
 abbrev Read : ℕ → Type 0
@@ -178,7 +178,7 @@ walk_read (suc k) at [] cs h e = body_none (suc k) cs e
 walk_read (suc k) at (b ∷ bs) cs h e = body_after k at (b ∷ bs) cs (one_claim_in (b ∷ bs)) (walk_read k) h refl e
 
 -- the packet
-pub judge_packet : (cs : List Claim) → All Carriable cs → length cs ≤ 256 → length (body cs) ≤ 32765 → judge (packet cs) ≡ Ok cs
+pub judge_packet : (cs : List Claim) → AllByRecursion Carriable cs → length cs ≤ 256 → length (body cs) ≤ 32765 → judge (packet cs) ≡ Ok cs
 judge_packet cs each few short =
     let n : ℕ = length (body cs) in
     let says : n / 256 % 256 * 256 + n % 256 ≡ n = omega arith in

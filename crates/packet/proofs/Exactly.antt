@@ -1,12 +1,11 @@
 -- The judgement and the format say the same.
-use Rattle.std.proofs.Common.{◌≡◌, ℕ, zero, suc, ◌+◌, ◌<◌, ◌≤◌, true, List, [], length, get_or, drop, is_ok, Some, None, Ok, Err, Option, Result, sym, refl, ap, ◌∙◌, subst, zero-add, arith}
+use Rattle.std.proofs.Common.{◌≡◌, ℕ, ◌+◌, ◌<◌, true, List, length, get_or, is_ok, Some, None, Ok, Err, Option, sym, refl, ap, ◌∙◌, subst, arith}
 use Rattle.std.proofs.ByRecursion.{All-from_get_or}
 use Rattle.claims.specs.Claims.{claims_of}
-use Rattle.claims.specs.Meaning.{Claim}
 use Rattle.faults.specs.declared.Fault.{Fault}
-use Rattle.packet.specs.Exact.{Exact, Accepted, fault_in}
+use Rattle.packet.specs.Exact.{Exact, fault_in}
 use Rattle.packet.specs.Format.{Bytes}
-use Rattle.packet.specs.Judge.{Verdict, followed, judge, walk, counted, claims_in}
+use Rattle.packet.specs.Judge.{Verdict, judge, counted, claims_in}
 use Rattle.packet.specs.Records.{records_from}
 use Rattle.packet.proofs.Claims.{judge_read, judge_carries}
 use Rattle.packet.proofs.Refusing.{told}

@@ -1,5 +1,5 @@
 -- A field of a packet at a place.
-use Rattle.std.proofs.Common.{◌≡◌, ℕ, ◌+◌, ◌-◌, ◌*◌, ◌<◌, ◌≤◌, cond, eqb, leb, List, [], ◌∷◌, length, get_or, take, drop, ℤ, Some, None, Ok, Err, sym, refl, ap, ◌∙◌, add-zero, arith, w64, to_z}
+use Rattle.std.proofs.Common.{◌≡◌, ℕ, ◌+◌, ◌*◌, ◌<◌, ◌≤◌, cond, eqb, leb, List, [], ◌∷◌, length, get_or, take, drop, ℤ, Some, None, Ok, Err, sym, refl, ap, ◌∙◌, add-zero, arith, w64, to_z}
 use Rattle.std.specs.Int.Digits.{number_from_digits}
 use Rattle.std.proofs.lemmas.List.{drop_more, drop_all, length-drop, length-take-le, get_or-drop}
 use Rattle.std.proofs.lemmas.Bool.{cond-true, cond-false, le-leb, lt-leb}

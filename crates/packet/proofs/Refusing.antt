@@ -1,9 +1,9 @@
 -- A refusal tells the first place at which no claim stands.
 use Rattle.std.proofs.Common.{◌≡◌, ℕ, zero, suc, ◌+◌, ◌-◌, ◌<◌, ◌≤◌, Bool, true, false, cond, not, ◌||◌, eqb, ltb, ◌⊎◌, List, [], ◌∷◌, ◌++◌, length, get_or, take, drop, Ok, Err, Result, sym, refl, ap, ◌∙◌, subst, inl, inr, append_assoc, arith, length-append}
 use Rattle.std.proofs.ByRecursion.{All-push, All-drop}
-use Rattle.std.proofs.lemmas.List.{drop-drop, length-drop, flat_map_more, append-nil, take-append-drop}
-use Rattle.std.proofs.lemmas.Bool.{cases_Bool, cond-true, cond-false, or_cases, or_parts, ltb-true, ltb-false, eqb-true, eqb-false, not-true, not-false}
-use Rattle.std.specs.List.{AllByRecursion as All}
+use Rattle.std.proofs.lemmas.List.{drop-drop, length-drop, flat_map_more, take-append-drop}
+use Rattle.std.proofs.lemmas.Bool.{ltb-true, ltb-false, eqb-true, eqb-false}
+use Rattle.std.specs.List.{AllByRecursion}
 use Rattle.claims.specs.Meaning.{Claim}
 use Rattle.faults.specs.At.{fault_at}
 use Rattle.faults.specs.declared.Cause.{Cause}
@@ -20,7 +20,7 @@ clash f cs e = let z : ◌≡◌ {A = ℕ} 0 1 = cc in absurd (omega arith)
 
 -- whole claims lie in front of the place `at`, and k more may come
 record Front (bs : List ℕ) (before : List Claim) (k at : ℕ) : Type 0 where
-  each : All Carriable before
+  each : AllByRecursion Carriable before
   place : at ≡ 3 + length (body before)
   front : bs ≡ take 3 bs ++ (body before ++ drop at bs)
   sum : length before + k ≡ 256

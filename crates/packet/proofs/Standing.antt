@@ -1,5 +1,5 @@
 -- The records of a packet's claims stand for the claims.
-use Rattle.std.proofs.Common.{◌≡◌, ℕ, zero, suc, ◌+◌, ◌-◌, ◌*◌, ◌<◌, ◌≤◌, leb, List, [], ◌∷◌, ◌++◌, length, take, drop, Some, None, Option, sym, refl, ap, ◌∙◌, subst, append_assoc, add-zero, arith, length-append}
+use Rattle.std.proofs.Common.{◌≡◌, ℕ, zero, suc, ◌+◌, ◌*◌, ◌≤◌, leb, List, [], ◌∷◌, ◌++◌, length, take, drop, Some, None, sym, refl, ap, ◌∙◌, append_assoc, add-zero, arith, length-append}
 use Rattle.std.proofs.lemmas.List.{take_at, drop_at, drop-drop, length-drop}
 use Rattle.std.proofs.lemmas.Bool.{cond-true, le-leb}
 use Rattle.std.specs.Option.{option_map}
@@ -13,9 +13,9 @@ use Rattle.claims.specs.declared.texts.Origin.TheVariants.{Packet}
 use Rattle.claims.specs.declared.texts.Text.{Text}
 use Rattle.claims.specs.declared.values.Value.{Value}
 use Rattle.claims.specs.declared.values.Value.TheVariants.{Uint64, Int64, String, Boolean}
-use Rattle.packet.specs.Format.{encode_text, encode_value, encode, body, packet, head_of}
+use Rattle.packet.specs.Format.{encode_text, encode_value, encode, body, packet}
 use Rattle.packet.specs.Held.{held_text, held_value, held_claim, after_text, Lies, TextLies, ClaimLies}
-use Rattle.packet.specs.Judge.{size_of_text, size_of_value, size}
+use Rattle.packet.specs.Judge.{size_of_text, size}
 use Rattle.packet.specs.Records.{text_record, value_record, claim_record, records_from}
 use Rattle.packet.proofs.Bytes.{units_bytes, length-unit_bytes, length-encode_text}
 use Rattle.packet.proofs.Claims.{length-encode}

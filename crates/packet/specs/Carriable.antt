@@ -1,14 +1,14 @@
 -- The claims that a packet can carry.
 use Rattle.std.specs.Prelude.{◌≡◌, ℕ, ◌^◌, ◌<◌, ◌≤◌, true, List, length, Some, FitsSigned}
 use Rattle.std.specs.Int.{w64}
-use Rattle.std.specs.List.{AllByRecursion as All}
+use Rattle.std.specs.List.{AllByRecursion}
 use Rattle.claims.specs.Meaning.{Value, uint64, int64, string, boolean, Claim, named, type_of}
 use Rattle.units.specs.Form.{well_formed}
 
 -- a text that its length byte can count, well formed
 pub record Short (us : List ℕ) : Type 0 where
   pub few : length us ≤ 255
-  pub wide : All (λ u. u < 65536) us
+  pub wide : AllByRecursion (λ u. u < 65536) us
   pub well : well_formed us ≡ true
 
 abbrev pub Fits : Value → Type 0

@@ -1,6 +1,6 @@
 -- What a check answers: accepted are exactly the packets of some claims, and the records stand for those.
 use Rattle.std.specs.Prelude.{◌≡◌, ℕ, ◌+◌, ◌-◌, ◌<◌, ◌⊎◌, List, [], ◌∷◌, ◌++◌, length, take, drop, Some, None, Ok, Err, Option, ◌≢◌, slice_index}
-use Rattle.std.specs.List.{AllByRecursion as All}
+use Rattle.std.specs.List.{AllByRecursion}
 use Rattle.claims.specs.Claims.{claims_of}
 use Rattle.claims.specs.Meaning.{Claim}
 use Rattle.faults.specs.At.{fault_at}
@@ -9,7 +9,7 @@ use Rattle.faults.specs.declared.Cause.TheVariants.{NotAPacket, LengthMismatch, 
 use Rattle.faults.specs.declared.Fault.{Fault}
 use Rattle.packet.specs.Carriable.{Carriable}
 use Rattle.packet.specs.Format.{encode, body, Carries}
-use Rattle.packet.specs.Judge.{Verdict, one_claim_in, declared_size, judge}
+use Rattle.packet.specs.Judge.{Verdict, one_claim_in, declared_size}
 use Rattle.packet.specs.Records.{records_in}
 
 abbrev pub fault_in : Verdict → Option Fault
@@ -31,7 +31,7 @@ pub record Accepted (bytes : List ℕ) : Type 0 where
 -- a place behind whole claims, where bytes follow that begin no claim a packet can carry, or one claim too many
 pub record FailsAt (bytes : List ℕ) (f : Fault) : Type 0 where
   pub before : List Claim
-  pub each : All Carriable before
+  pub each : AllByRecursion Carriable before
   pub place : f.place ≡ 3 + length (body before)
   pub front : bytes ≡ take 3 bytes ++ (body before ++ drop f.place bytes)
   pub follows : f.place < length bytes

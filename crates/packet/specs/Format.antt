@@ -2,7 +2,7 @@
 use Rattle.std.specs.Prelude.{◌≡◌, ℕ, zero, suc, ◌/◌, ◌%◌, ◌<◌, ◌≤◌, cond, List, [], ◌∷◌, ◌++◌, length}
 use Rattle.std.proofs.Common.{of_z}
 use Rattle.std.specs.Int.{w64}
-use Rattle.std.specs.List.{flat_map, AllByRecursion as All}
+use Rattle.std.specs.List.{flat_map, AllByRecursion}
 use Rattle.claims.specs.Meaning.{Value, uint64, int64, string, boolean, Claim}
 use Rattle.packet.specs.Carriable.{Carriable}
 use Rattle.units.specs.Units.{unit_bytes}
@@ -36,10 +36,10 @@ packet cs = head_of (length (body cs)) ++ body cs
 
 -- the packet of these claims, and none of its limits passed
 pub record Carries (bytes : List ℕ) (cs : List Claim) : Type 0 where
-  pub each : All Carriable cs
+  pub each : AllByRecursion Carriable cs
   pub few : length cs ≤ 256
   pub short : length (body cs) ≤ 32765
   pub spelt : bytes ≡ packet cs
 
 abbrev pub Bytes : List ℕ → Type 0
-Bytes bs = All (λ b. b < 256) bs
+Bytes bs = AllByRecursion (λ b. b < 256) bs

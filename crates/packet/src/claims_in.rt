@@ -1,6 +1,6 @@
 // The claims of a packet, one after the other, and the first fault among them.
 ghost use Rattle.std.specs.Prelude.{◌≡◌, ◌≤◌, length, drop, IfOk};
-ghost use Rattle.packet.specs.Held.{held_value, held_claim, meant, past as pastClaim, InsideValue, InsideClaim, ClaimLies};
+ghost use Rattle.packet.specs.Held.{held_value, held_claim, meant, past as past_claim, InsideValue, InsideClaim, ClaimLies};
 ghost use Rattle.packet.specs.Judge.{well_formed_value, well_formed_claim, one_claim_in, walk, judge, counted};
 
 use super::fields::{part, past_text, text_at, value_at};
@@ -12,7 +12,7 @@ const MAX_CLAIMS: u16 = 256;
 
 // The place behind a claim.
 pub fn past(claim: Claim) -> usize
-    ensures { result ≡ pastClaim claim }
+    ensures { result ≡ past_claim claim }
 {
     match claim.value {
         Value::Uint64(_) => past_text(claim.word) + 8,

@@ -1,6 +1,8 @@
 // A claims list as a packet, and a packet as it is written back: what the program does between its files.
 // A list is read, and its records are written as a packet.
 // An accepted packet is written again, and compared with itself.
+#![tactic(auto)]
+
 mod packs;
 mod rewrites;
 #[cfg(test)]

@@ -1,5 +1,5 @@
 -- Rules with a limit, read by a loop: what is read and what is left give the whole.
-use Rattle.std.proofs.Common.{◌≡◌, ℕ, zero, suc, Bool, true, false, cond, List, [], ◌∷◌, ◌++◌, sym, refl, ap, ◌∙◌, append-nil}
+use Rattle.std.proofs.Common.{◌≡◌, ℕ, suc, Bool, true, false, cond, List, [], ◌∷◌, ◌++◌, sym, ap, ◌∙◌, append-nil}
 use Rattle.words.specs.Words.{Word}
 use Rattle.grammar.specs.Parse.{ARule, Rules, rules_begin}
 use Rattle.grammar.specs.Readers.{Got, got, useless, past, Reads, next, return, past_limit}

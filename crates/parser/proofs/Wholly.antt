@@ -1,13 +1,13 @@
 -- A whole text, by what its rules give and what is left behind them.
-use Rattle.std.proofs.Common.{◌≡◌, ℕ, Bool, true, false, List, [], ◌∷◌, length, Ok, Err, Result, sym, refl, ap, ◌∙◌, subst, arith}
+use Rattle.std.proofs.Common.{◌≡◌, ℕ, true, false, List, [], ◌∷◌, length, Ok, Err, Result, sym, refl, ap, ◌∙◌, subst, arith}
 use Rattle.faults.specs.declared.Fault.{Fault}
 use Rattle.words.specs.Words.{Word, words}
 use Rattle.grammar.proofs.Top.{judged}
 use Rattle.grammar.specs.Exact.{Judged}
 use Rattle.grammar.specs.Parse.{RuleSet}
-use Rattle.grammar.specs.Readers.{Got, got, useless, past}
+use Rattle.grammar.specs.Readers.{Got, got}
 use Rattle.grammar.specs.Tree as T
-use Rattle.grammar.specs.Whole.{Parsed, rules, fault, whole, parse}
+use Rattle.grammar.specs.Whole.{rules, fault, whole, parse}
 use Rattle.parser.specs.Parsed.{parsed_of}
 use Rattle.cursor.specs.Reading.{Reading, stopped, fault_of, is_none}
 use Rattle.parser.specs.Shown.{rules_of}

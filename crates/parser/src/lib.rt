@@ -1,5 +1,7 @@
 // The rules of a rule text, read as the grammar derives them.
 // A text is accepted exactly when it is derivable within the limits, and refused exactly where it stops.
+#![tactic(auto)]
+
 mod parses;
 mod rules;
 mod tree;

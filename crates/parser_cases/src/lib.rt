@@ -1,3 +1,5 @@
+#![tactic(auto)]
+
 // Rule texts run against the parser: what is accepted, and where the others are refused.
 // A crate of its own, since a crate with tests is proved twice.
 #[cfg(test)]

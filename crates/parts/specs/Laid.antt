@@ -1,5 +1,5 @@
 -- The parts that rules are laid out in: one for each rule, selection and condition, in the order of the text.
-use Rattle.std.specs.Prelude.{ℕ, List, [], ◌∷◌, ◌++◌, map, length}
+use Rattle.std.specs.Prelude.{List, [], ◌∷◌, ◌++◌, map, length}
 use Rattle.words.specs.Words.{Word}
 use Rattle.grammar.specs.Tree as T
 use Rattle.conditions.specs.declared.tree.Oper.{Oper}

@@ -1,5 +1,5 @@
 -- What rules ask and do, apart from how they are written: texts as units, and an identifier as the number of its selection.
-use Rattle.std.specs.Prelude.{ℕ, suc, Bool, true, false, cond, List, [], ◌∷◌, map, Some, None, Option}
+use Rattle.std.specs.Prelude.{ℕ, suc, Bool, false, cond, List, [], ◌∷◌, map, Some, None, Option}
 use Rattle.std.specs.Option.{option_map, unwrap_or}
 use Rattle.units.specs.Fold.{same_units}
 use Rattle.words.specs.Words.{Word}

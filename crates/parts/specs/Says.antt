@@ -1,6 +1,5 @@
 -- What parts say through the units of the rule text.
-use Rattle.std.specs.Prelude.{ℕ, ◌+◌, List, [], ◌∷◌, map, take, drop}
-use Rattle.grammar.specs.Tree.{eq}
+use Rattle.std.specs.Prelude.{ℕ, ◌+◌, List, take, drop}
 use Rattle.conditions.specs.Shown.{oper_of}
 use Rattle.parts.specs.Resolved as meaning
 use Rattle.parts.specs.declared.Action.{Action}

@@ -1,6 +1,8 @@
 // The parts that a rule text is laid out in: one for each rule, selection and condition, in the order of the text.
 // A part is a plain value of places in the text; what it says is read through the text's units.
 // An identifier of an action is held as the number of its selection.
+#![tactic(auto)]
+
 ghost use Rattle.std.specs.Prelude.{◌≡◌};
 ghost use Rattle.units.specs.Units.{units};
 ghost use Rattle.parts.specs.Says.{quoted_units};

@@ -1,11 +1,11 @@
 -- What has been read, put together.
-use Rattle.std.proofs.Common.{◌≡◌, ℕ, suc, ◌+◌, ◌-◌, ◌<◌, ◌≤◌, Bool, true, false, cond, ◌&&◌, ◌||◌, eqb, List, [], ◌∷◌, ◌++◌, length, take, drop, sym, refl, ap, ◌∙◌, subst, append_assoc, append-nil, add-zero, add-one, arith}
+use Rattle.std.proofs.Common.{◌≡◌, ℕ, suc, ◌+◌, ◌<◌, ◌≤◌, Bool, true, cond, ◌&&◌, ◌||◌, List, [], ◌∷◌, ◌++◌, length, take, drop, sym, refl, ap, ◌∙◌, subst, append_assoc, append-nil, add-zero, arith}
 use lib.Bits.{bit_or}
-use Rattle.std.proofs.lemmas.List.{length-drop, length-append, drop-drop}
+use Rattle.std.proofs.lemmas.List.{length-drop, drop-drop}
 use Rattle.std.proofs.lemmas.Bool.{eqb-true, false≢true}
 use Rattle.automaton.specs.declared.Atom.{Atom}
-use Rattle.automaton.specs.Language.{Tree, empty, one, either, followed, plus, opt, star}
-use Rattle.automaton.specs.Places.{first, last, null, size, Link, links, atoms_of}
+use Rattle.automaton.specs.Language.{empty, one, either, followed, plus, opt, star}
+use Rattle.automaton.specs.Places.{first, last, size, links, atoms_of}
 use Rattle.pattern.specs.Signs.{begins}
 use Rattle.pattern.specs.Grammar.{Kind, choice, sequence, item, atom, Spells, one_way, or_way, nothing, and_then, once, starred, plussed, queried, bracketed}
 use Rattle.pattern.specs.Parts.{Either, Both, Moved, Single, Grown}

@@ -1,22 +1,21 @@
 -- The refusal that is computed is the one that a pattern meets.
-use Rattle.std.proofs.Common.{◌≡◌, ℕ, zero, suc, pred, ◌+◌, ◌<◌, ◌≤◌, Bool, true, false, cond, ◌&&◌, eqb, ltb, leb, ◌⊎◌, List, [], ◌∷◌, ◌++◌, drop, Some, None, Ok, Err, Option, Result, sym, refl, ap, ◌∙◌, subst, inl, inr, true≢false, append_assoc, arith}
-use mathlib.Core.Bool.{false≢true}
-use Rattle.std.proofs.lemmas.Bool.{and_parts, and_from, ltb-true, lt-ltb, leb-true, le-leb, cases_Bool}
+use Rattle.std.proofs.Common.{◌≡◌, ℕ, zero, suc, pred, ◌+◌, ◌≤◌, Bool, true, false, cond, ◌&&◌, ltb, List, [], ◌∷◌, ◌++◌, Some, None, Ok, Err, Option, Result, sym, refl, ap, ◌∙◌, subst, inl, inr, append_assoc, arith}
+use Rattle.std.proofs.lemmas.Bool.{and_parts, and_from, ltb-true, lt-ltb, leb-true, le-leb}
 use Rattle.faults.specs.declared.Cause.{Cause}
 use Rattle.faults.specs.declared.Cause.TheVariants.{MalformedPattern, PatternOverLimit}
 use Rattle.automaton.specs.Language.{Tree}
 use Rattle.automaton.specs.Places.{size}
 use Rattle.pattern.specs.Signs.{special, begins}
-use Rattle.pattern.specs.Grammar.{Kind, choice, Spells, one_way, or_way, nothing, and_then, once, starred, plussed, queried, dot, unit, escaped, bracketed, closing, Written}
+use Rattle.pattern.specs.Grammar.{Kind, Spells, one_way, or_way, nothing, and_then, once, starred, plussed, queried, dot, unit, escaped, bracketed, closing}
 use Rattle.pattern.specs.Formed.{formed}
 use Rattle.pattern.specs.Parsed.{whole, pattern_match}
 use Rattle.pattern.specs.Caused.{shallow, few, body, cause_of_pattern, cause_of, answer_of, pattern_answer}
-use Rattle.pattern.specs.Judged.{WellFormed, WithinLimits, Accepted, Refusal, Reads, Answered, Decided}
+use Rattle.pattern.specs.Judged.{WellFormed, WithinLimits, Refusal, Reads, Decided}
 use Rattle.pattern.specs.declared.Pattern.{Pattern}
 use Rattle.pattern.specs.declared.scan.State.TheVariants.{Fresh}
 use Rattle.pattern.proofs.Onward.{no_eq}
 use Rattle.pattern.proofs.Formed.{passes}
-use Rattle.pattern.proofs.Whole.{Body, body_of, whole_of, malformed, well_formed_passed, closes}
+use Rattle.pattern.proofs.Whole.{body_of, whole_of, well_formed_passed, closes}
 use Rattle.pattern.proofs.Parse.{told_whole}
 
 -- a plain unit is no bracket and no backslash

@@ -1,8 +1,8 @@
 -- The worked pattern, by computation.
-use Rattle.std.proofs.Common.{◌≡◌, ℕ, true, List, [], ◌∷◌, codes, refl, arith}
+use Rattle.std.proofs.Common.{true, [], codes, refl, arith}
 use mathlib.Core.Bool.{false≢true}
 use Rattle.automaton.specs.declared.Atom.TheVariants.{Plain}
-use Rattle.automaton.specs.Language.{one, either, followed}
+use Rattle.automaton.specs.Language.{one, followed}
 use Rattle.automaton.proofs.Made.{computed}
 use Rattle.pattern.specs.Grammar.{choice, sequence, Spells, one_way, or_way, nothing, and_then, once, starred, unit, bracketed}
 use Rattle.pattern.specs.Examples.{alone, sample, Worked, Computed}

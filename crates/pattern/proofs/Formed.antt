@@ -1,12 +1,11 @@
 -- The pass over the units tells whether they spell a choice, however deep.
-use Rattle.std.proofs.Common.{◌≡◌, ℕ, zero, suc, ◌+◌, ◌<◌, ◌≤◌, Bool, true, false, cond, ◌&&◌, ◌||◌, eqb, leb, ◌⊎◌, List, [], ◌∷◌, ◌++◌, length, get_or, drop, Some, None, Option, sym, refl, ap, ◌∙◌, subst, inl, inr, true≢false, append_assoc, append-nil, arith}
+use Rattle.std.proofs.Common.{◌≡◌, ℕ, zero, suc, ◌+◌, ◌≤◌, Bool, true, false, cond, ◌&&◌, ◌||◌, eqb, leb, ◌⊎◌, List, [], ◌∷◌, ◌++◌, Some, None, Option, sym, refl, ap, ◌∙◌, subst, inl, inr, append_assoc, append-nil, arith}
 use mathlib.Core.Bool.{false≢true}
-use Rattle.std.proofs.lemmas.List.{drop_more, drop_all}
 use Rattle.std.proofs.lemmas.Bool.{eqb-true, or_cases, or_parts, cases_Bool, cases_lt, eqb-false, and_left, and_right, lt-leb}
-use Rattle.automaton.specs.Language.{Tree, empty, one, either, followed, plus, opt, star}
-use Rattle.pattern.specs.Signs.{special, begins}
-use Rattle.pattern.specs.Grammar.{Kind, choice, sequence, item, atom, Spells, one_way, or_way, nothing, and_then, once, starred, plussed, queried, dot, unit, escaped, bracketed, opening, closing, Written}
-use Rattle.pattern.specs.Formed.{class_of, free, after, done, formed, goes}
+use Rattle.automaton.specs.Language.{Tree, empty, one, either, followed}
+use Rattle.pattern.specs.Signs.{special}
+use Rattle.pattern.specs.Grammar.{Kind, choice, sequence, item, atom, Spells, one_way, or_way, nothing, and_then, once, starred, plussed, queried, dot, unit, escaped, bracketed, closing}
+use Rattle.pattern.specs.Formed.{class_of, free, after, done, formed}
 use Rattle.pattern.specs.declared.scan.State.{State}
 use Rattle.pattern.specs.declared.scan.State.TheVariants.{Fresh, Behind, Escaped, Closed}
 use Rattle.pattern.specs.declared.scan.Class.{Class}

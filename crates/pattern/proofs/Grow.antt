@@ -4,7 +4,7 @@ use mathlib.Core.Bool.{false≢true}
 use lib.Bits.{bit_or}
 use Rattle.std.proofs.lemmas.List.{get_or-set_same, get_or-set_other}
 use Rattle.std.proofs.lemmas.Bool.{cases_order}
-use Rattle.automaton.specs.Places.{bit, Has, Link, Linked}
+use Rattle.automaton.specs.Places.{bit, Has, Link}
 use Rattle.automaton.proofs.Holds.{has_split, has_left, has_right, linked_left, linked_right, linked_split}
 use Rattle.pattern.specs.Parts.{Grown}
 

@@ -1,9 +1,8 @@
 -- What stands at a place of a text, and what is left there.
-use Rattle.std.proofs.Common.{◌≡◌, ℕ, zero, suc, ◌+◌, ◌*◌, ◌<◌, ◌≤◌, Bool, true, false, cond, eqb, List, [], ◌∷◌, length, drop, Some, None, Option, sym, refl, ap, ◌∙◌, add-one, arith, eq-eqb, ne_eqb}
+use Rattle.std.proofs.Common.{◌≡◌, ℕ, zero, suc, ◌+◌, ◌<◌, ◌≤◌, Bool, true, false, cond, eqb, List, [], ◌∷◌, length, drop, Some, None, sym, refl, ap, ◌∙◌, add-one, arith, eq-eqb, ne_eqb}
 use Rattle.units.specs.Units.{units}
 use Rattle.units.proofs.Texts.{length-units}
 use Rattle.std.specs.List.{slice_get}
-use Rattle.automaton.specs.declared.Atom.{Atom}
 use Rattle.automaton.specs.declared.Atom.TheVariants.{Plain}
 use Rattle.pattern.specs.Signs.{special, plainly, escaped, simple}
 

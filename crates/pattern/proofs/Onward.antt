@@ -1,11 +1,11 @@
 -- A sequence and a choice, taken from the left: what is left of one behind a part of it.
-use Rattle.std.proofs.Common.{◌≡◌, ℕ, ◌+◌, ◌<◌, ◌≤◌, Bool, true, false, not, ◌&&◌, ◌||◌, eqb, ◌⊎◌, List, [], ◌∷◌, ◌++◌, length, sym, refl, ap, ◌∙◌, subst, inl, inr, true≢false, append_assoc, append-nil, arith}
+use Rattle.std.proofs.Common.{◌≡◌, ℕ, ◌<◌, ◌≤◌, Bool, true, false, not, ◌&&◌, ◌||◌, eqb, List, [], ◌∷◌, ◌++◌, length, sym, refl, ap, ◌∙◌, subst, inl, inr, true≢false, append_assoc, append-nil, arith}
 use mathlib.Core.Bool.{false≢true}
-use Rattle.std.proofs.lemmas.Bool.{eqb-true, or_cases, or_from}
+use Rattle.std.proofs.lemmas.Bool.{eqb-true, or_cases}
 use Rattle.automaton.specs.Language.{Tree, empty, either, followed}
 use Rattle.automaton.specs.Places.{size}
 use Rattle.pattern.specs.Signs.{special, begins, parting, stops}
-use Rattle.pattern.specs.Grammar.{Kind, choice, sequence, item, atom, Spells, one_way, or_way, nothing, and_then, once, starred, plussed, queried, dot, unit, escaped, bracketed}
+use Rattle.pattern.specs.Grammar.{choice, sequence, item, atom, Spells, one_way, or_way, nothing, and_then, once, starred, plussed, queried, dot, unit, escaped, bracketed}
 use Rattle.pattern.specs.Reading.{repeats}
 
 -- behind a sequence with the tree a, items that make it t

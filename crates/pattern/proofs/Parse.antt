@@ -1,6 +1,5 @@
 -- The tree that is computed is the one that is spelt.
-use Rattle.std.proofs.Common.{◌≡◌, ℕ, ◌≤◌, Bool, true, false, cond, ◌||◌, eqb, ◌⊎◌, List, [], ◌∷◌, ◌++◌, drop, Some, None, Decides, Option, sym, refl, ap, ◌∙◌, subst, inl, inr, true≢false, append_assoc, arith}
-use mathlib.Core.Bool.{false≢true}
+use Rattle.std.proofs.Common.{◌≡◌, ℕ, ◌≤◌, Bool, true, false, cond, List, [], ◌∷◌, ◌++◌, Some, None, Decides, Option, sym, refl, ap, ◌∙◌, subst, inl, inr, true≢false, append_assoc}
 use Rattle.automaton.specs.declared.Atom.TheVariants.{Plain, Any}
 use Rattle.automaton.specs.Language.{Tree, empty, one, either, followed, Matches}
 use Rattle.automaton.specs.Places.{size, Stands}
@@ -8,17 +7,17 @@ use Rattle.automaton.specs.Run.{run}
 use Rattle.automaton.specs.Made.{made}
 use Rattle.automaton.proofs.Made.{computed}
 use Rattle.pattern.specs.Signs.{special, begins}
-use Rattle.pattern.specs.Grammar.{choice, sequence, item, atom, Spells, one_way, or_way, nothing, and_then, once, starred, plussed, queried, dot, unit, escaped, bracketed, opening, closing, Written}
+use Rattle.pattern.specs.Grammar.{choice, sequence, item, atom, Spells, one_way, or_way, nothing, and_then, once, starred, plussed, queried, dot, unit, escaped, bracketed, closing, Written}
 use Rattle.pattern.specs.Judged.{Accepted, Answered}
 use Rattle.pattern.specs.Reading.{repeats}
 use Rattle.pattern.specs.declared.Pattern.{Pattern}
 use Rattle.pattern.specs.Formed.{class_of}
-use Rattle.pattern.specs.Parsed.{settled, joined, single, Spot, open_at, escaped_at, closed_at, plain, next, ended, onward, parse, whole, tells, pattern_match}
+use Rattle.pattern.specs.Parsed.{settled, joined, single, open_at, plain, onward, parse, whole, tells, pattern_match}
 use Rattle.pattern.specs.declared.scan.Class.{Class}
 use Rattle.pattern.specs.declared.scan.Class.TheVariants.{Opens, Closes, Parts, Escapes, Repeats, Ends, Strays, Takes}
 use Rattle.pattern.proofs.Onward.{no_eq, item_opens, opens_not}
 use Rattle.pattern.proofs.Formed.{plain_takes, Is, class_is}
-use Rattle.pattern.proofs.Whole.{Body, body_of}
+use Rattle.pattern.proofs.Whole.{body_of}
 
 abbrev Frames : Type 0
 Frames = List (Option Tree × Tree)

@@ -1,5 +1,5 @@
 -- A sequence and a choice as they are read, one item and one way after another.
-use Rattle.std.proofs.Common.{◌≡◌, ℕ, ◌+◌, ◌<◌, ◌≤◌, Bool, true, false, List, [], ◌∷◌, ◌++◌, length, drop, Some, None, Option, sym, refl, ap, ◌∙◌, subst, true≢false, append_assoc, append-nil, arith}
+use Rattle.std.proofs.Common.{◌≡◌, ℕ, ◌+◌, ◌<◌, ◌≤◌, true, false, List, [], ◌∷◌, ◌++◌, length, drop, None, Option, sym, refl, ap, ◌∙◌, subst, true≢false, append_assoc, append-nil, arith}
 use Rattle.std.proofs.lemmas.List.{length-drop, length-append, append_cancel_left}
 use Rattle.automaton.specs.Language.{Tree, either, followed}
 use Rattle.automaton.specs.Places.{size}
@@ -10,7 +10,7 @@ use Rattle.pattern.specs.Reading.{Next, Got, Only, Read, Refused, Outcome}
 use Rattle.pattern.specs.declared.reader.Part.{Part}
 use Rattle.pattern.specs.declared.reader.Table.{Table}
 use Rattle.pattern.proofs.Onward.{Items, halt, step, Ways, last, way, items_of, ways_of, items_size, ways_size, item_some, items_loose, items_stop, ways_stop, ways_end}
-use Rattle.pattern.proofs.Build.{behind, stood, stood_within, got_empty, got_way, got_either, got_both}
+use Rattle.pattern.proofs.Build.{behind, got_empty, got_way, got_either, got_both}
 
 abbrev pub Inside : ℕ → ℕ → List ℕ → Type 0
 Inside at to us = (at ≤ to) × (to ≤ length us)

@@ -1,5 +1,5 @@
 -- An item and an atom: read as the one that stands there, or refused since none does.
-use Rattle.std.proofs.Common.{◌≡◌, ℕ, zero, suc, ◌+◌, ◌-◌, ◌<◌, ◌≤◌, Bool, true, false, cond, ◌||◌, eqb, List, [], ◌∷◌, ◌++◌, length, take, drop, Some, None, Option, sym, refl, ap, ◌∙◌, subst, true≢false, append_assoc, append-nil, arith}
+use Rattle.std.proofs.Common.{◌≡◌, ℕ, suc, ◌+◌, ◌-◌, ◌<◌, ◌≤◌, Bool, true, false, cond, eqb, List, [], ◌∷◌, ◌++◌, length, take, drop, Some, None, Option, sym, refl, ap, ◌∙◌, subst, true≢false, append_assoc, append-nil, arith}
 use mathlib.Core.Bool.{false≢true}
 use Rattle.std.proofs.lemmas.List.{length-drop, length-append, append_cancel_left, take_at, drop-drop, drop_at}
 use Rattle.std.proofs.lemmas.Bool.{eqb-true, or_parts}
@@ -8,14 +8,14 @@ use Rattle.automaton.specs.declared.Atom.TheVariants.{Plain, Any}
 use Rattle.automaton.specs.Language.{Tree, one, plus, opt, star}
 use Rattle.automaton.specs.Places.{size}
 use Rattle.pattern.specs.Signs.{special, begins, plainly, simple}
-use Rattle.pattern.specs.Signs.{escaped as escapedAt}
-use Rattle.pattern.specs.Grammar.{Kind, choice, item, atom, Spells, once, starred, plussed, queried, dot, unit, escaped, bracketed}
+use Rattle.pattern.specs.Signs.{escaped as escape_at}
+use Rattle.pattern.specs.Grammar.{choice, item, atom, Spells, once, starred, plussed, queried, dot, unit, escaped, bracketed}
 use Rattle.pattern.specs.Parts.{Moved, Single, Grown}
-use Rattle.pattern.specs.Reading.{repeats, Got, Only, Read, Refused}
+use Rattle.pattern.specs.Reading.{repeats, Read, Refused}
 use Rattle.pattern.specs.declared.reader.Part.{Part}
 use Rattle.pattern.specs.declared.reader.Table.{Table}
 use Rattle.pattern.proofs.Onward.{no_eq}
-use Rattle.pattern.proofs.Build.{behind, stood, stood_within, got_once, got_star, got_plus, got_opt, got_group, got_single}
+use Rattle.pattern.proofs.Build.{behind, stood_within, got_once, got_star, got_plus, got_opt, got_group, got_single}
 
 -- what a repeat makes of a tree
 pub data Repeat : Tree → Tree → List ℕ → Type 0 where
@@ -195,7 +195,7 @@ simple_of dot v e = record { atom = Any; tree = refl; found = refl }
 simple_of (unit c h) v e = record {
   atom = Plain c;
   tree = refl;
-  found = λ i. cond (no_eq c 92 refl h i) (escapedAt v) (cond (no_eq c 46 refl h i) (Some (Any, 1)) (cond (h i) None (Some (Plain c, 1))));
+  found = λ i. cond (no_eq c 92 refl h i) (escape_at v) (cond (no_eq c 46 refl h i) (Some (Any, 1)) (cond (h i) None (Some (Plain c, 1))));
 }
 simple_of (escaped c h) v e = record { atom = Plain c; tree = refl; found = ap (λ b. cond b (Some (Plain c, 2)) None) h }
 simple_of (bracketed u q x) v e = absurd (true≢false (sym (ap (λ z. begins 40 (z ++ v)) q) ∙ e))
@@ -215,7 +215,7 @@ same_found : {a b : Atom} {k l : ℕ} → ◌≡◌ {A = Option (Atom × ℕ)} (
 same_found {a} {b} {k} {l} e = let p : ◌≡◌ {A = Atom × ℕ} (a, k) (b, l) = cc in (ap (λ z. z.0) p, ap (λ z. z.1) p)
 
 module _ {d : ℕ} (a : Atom) (k : ℕ) where
-  from_escape : (s : List ℕ) → escapedAt s ≡ Some (a, k) → Spelt d a k (92 ∷ s)
+  from_escape : (s : List ℕ) → escape_at s ≡ Some (a, k) → Spelt d a k (92 ∷ s)
   from_escape [] e = absurd (never e)
   from_escape (c ∷ s) e = go (special c) refl e
     where
@@ -244,7 +244,7 @@ module _ {d : ℕ} (a : Atom) (k : ℕ) where
   spelt_of [] e = absurd (never e)
   spelt_of (c ∷ s) e = go (eqb c 92) refl e
     where
-      go : (b : Bool) → eqb c 92 ≡ b → cond b (escapedAt s) (plainly c) ≡ Some (a, k) → Spelt d a k (c ∷ s)
+      go : (b : Bool) → eqb c 92 ≡ b → cond b (escape_at s) (plainly c) ≡ Some (a, k) → Spelt d a k (c ∷ s)
       go true h e = subst (λ z. Spelt d a k (z ∷ s)) (sym (eqb-true c 92 h)) (from_escape s e)
       go false h e = from_plain c s e
 

@@ -1,11 +1,10 @@
 -- A whole pattern with its anchors.
-use Rattle.std.proofs.Common.{◌≡◌, ℕ, ◌+◌, ◌<◌, ◌≤◌, Bool, true, false, cond, eqb, ltb, ◌⊎◌, List, [], ◌∷◌, ◌++◌, length, get_or, take, drop, replicate, sym, refl, ap, ◌∙◌, subst, inl, inr, true≢false, zero-add, arith}
+use Rattle.std.proofs.Common.{◌≡◌, ℕ, ◌<◌, ◌≤◌, Bool, true, false, cond, eqb, ltb, List, [], ◌∷◌, ◌++◌, length, get_or, take, drop, sym, refl, ap, ◌∙◌, subst, inl, inr, true≢false, zero-add, arith}
 use mathlib.Core.Bool.{false≢true}
-use Rattle.std.proofs.lemmas.List.{length-drop, append_cancel_left, get_or-replicate}
+use Rattle.std.proofs.lemmas.List.{length-drop, append_cancel_left}
 use Rattle.std.proofs.lemmas.Bool.{eqb-true, cases_Bool, lt-ltb, le-ltb}
-use Rattle.automaton.specs.declared.Automaton.{Automaton}
 use Rattle.automaton.specs.Language.{Tree}
-use Rattle.automaton.specs.Places.{Has, size, links, Linked, Stands}
+use Rattle.automaton.specs.Places.{Has, size, links, Linked}
 use Rattle.automaton.proofs.Holds.{has_none}
 use Rattle.pattern.specs.Signs.{begins}
 use Rattle.pattern.specs.Grammar.{choice, Spells, opening, closing, Written}
@@ -15,7 +14,7 @@ use Rattle.pattern.specs.Judged.{WellFormed, WithinLimits, Accepted}
 use Rattle.pattern.specs.declared.reader.Part.{Part}
 use Rattle.pattern.specs.declared.reader.Table.{Table}
 use Rattle.pattern.specs.declared.scan.State.TheVariants.{Fresh}
-use Rattle.pattern.proofs.Build.{behind, stood, stood_within}
+use Rattle.pattern.proofs.Build.{stood, stood_within}
 use Rattle.pattern.proofs.Formed.{passes, means}
 
 -- what is well formed without an opening anchor does not begin with one

@@ -1,5 +1,5 @@
 -- What has been read of a pattern, and when nothing can be.
-use Rattle.std.specs.Prelude.{◌≡◌, ℕ, ◌+◌, ◌<◌, ◌≤◌, Bool, true, false, ◌||◌, List, [], ◌∷◌, ◌++◌, length, take, drop, Some, None, Option}
+use Rattle.std.specs.Prelude.{◌≡◌, ℕ, ◌+◌, ◌≤◌, Bool, true, false, ◌||◌, List, ◌++◌, length, take, drop, Some, None, Option}
 use Rattle.automaton.specs.Language.{Tree}
 use Rattle.automaton.specs.Places.{first, last, null, size, links, atoms_of}
 use Rattle.pattern.specs.Signs.{begins, stops}

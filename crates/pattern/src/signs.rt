@@ -1,7 +1,7 @@
 // The units that mean something of their own in a pattern.
 ghost use Rattle.std.specs.Prelude.{◌≡◌, drop, if◌then◌else◌, Some, None};
 ghost use Rattle.units.specs.Units.{units};
-ghost use Rattle.pattern.specs.Signs.{special as isSpecial, begins, parting, stops as stopsAt, plainly, simple as simpleAt};
+ghost use Rattle.pattern.specs.Signs.{special as is_special, begins, parting, stops as stops_at, plainly, simple as simple_at};
 ghost use Rattle.automaton.specs.declared.Atom.TheVariants.{Plain};
 
 use automaton::Atom;
@@ -29,7 +29,7 @@ pub const TAIL: u16 = 0x24;
 
 // . * + ? | ( ) [ ] \ ^ $
 pub fn special(u: u16) -> bool
-    ensures { result ≡ isSpecial u }
+    ensures { result ≡ is_special u }
 {
     match u {
         0x24 | 0x28..=0x2B | 0x2E | 0x3F | 0x5B..=0x5E | 0x7C => true,
@@ -59,7 +59,7 @@ fn parts(u: u16) -> bool
 
 // Is the place behind a sequence: the end, a bar, a closing bracket or the closing anchor?
 pub fn stops(s: &[u8], at: usize) -> bool
-    ensures { result ≡ stopsAt (drop at (units s.now)) }
+    ensures { result ≡ stops_at (drop at (units s.now)) }
 {
     match unit_at(s, at) {
         Some(u) => parts(u),
@@ -82,7 +82,7 @@ fn unescaped(u: u16) -> Option<(Atom, usize)>
 
 // A special unit behind its escape, together two units.
 fn behind_escape(u: u16) -> Option<(Atom, usize)>
-    ensures { result ≡ (if isSpecial u then Some (Plain u, 2) else None) }
+    ensures { result ≡ (if is_special u then Some (Plain u, 2) else None) }
 {
     if special(u) {
         Some((Atom::Plain(u), 2))
@@ -93,7 +93,7 @@ fn behind_escape(u: u16) -> Option<(Atom, usize)>
 
 // The atom for one unit of text that stands at the place, and how many units it is written with.
 pub fn simple(s: &[u8], at: usize) -> Option<(Atom, usize)>
-    ensures { result ≡ simpleAt (drop at (units s.now)) }
+    ensures { result ≡ simple_at (drop at (units s.now)) }
 {
     match unit_at(s, at) {
         None => None,

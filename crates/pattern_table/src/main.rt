@@ -1,6 +1,8 @@
 // A table of patterns: each line of the input is a pattern, a text and the verdict expected, parted by tabs.
 // The program prints each verdict, yes, no or the number of the refusal, and at the end how many were not as expected.
 // Lines are UTF-8, and are matched as UTF-16 units.
+#![tactic(auto)]
+
 ghost use Rattle.std.specs.Prelude.{◌≡◌, IfOk, string_bytes};
 ghost use Rattle.pattern_table.specs.Verdict.{shown};
 

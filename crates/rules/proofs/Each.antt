@@ -1,8 +1,7 @@
 -- Parts put one after the other by a loop over numbered items.
-use Rattle.std.proofs.Common.{◌≡◌, ℕ, ◌+◌, List, [], ◌∷◌, ◌++◌, map, length, take, Some, None, Option, sym, refl, ap, ◌∙◌, subst, append_assoc, append-nil, arith}
-use Rattle.std.proofs.lemmas.List.{take-take, map_push, map-append}
+use Rattle.std.proofs.Common.{◌≡◌, ℕ, ◌+◌, List, [], ◌∷◌, ◌++◌, map, take, Some, None, sym, refl, ap, ◌∙◌, subst, append_assoc, arith}
+use Rattle.std.proofs.lemmas.List.{take-take}
 use Rattle.std.specs.List.{slice_get}
-use Rattle.grammar.specs.Tree as T
 use Rattle.conditions.specs.Shown.{cond_of, selection_of, conds_of}
 use Rattle.conditions.specs.declared.tree.Cond.{Cond}
 use Rattle.conditions.specs.declared.tree.Selection.{Selection}

@@ -1,5 +1,5 @@
 -- The buffer once a text was judged into a sink over it.
-use Rattle.std.proofs.Common.{◌≡◌, ℕ, true, false, List, [], length, replicate, is_err, Ok, Err, Result, sym, refl, ap, ◌∙◌, subst, arith}
+use Rattle.std.proofs.Common.{◌≡◌, ℕ, true, false, List, length, replicate, is_err, Ok, Err, Result, sym, ap, ◌∙◌, arith}
 use Rattle.std.proofs.lemmas.List.{length-replicate}
 use Rattle.faults.specs.declared.Fault.{Fault}
 use Rattle.parts.specs.Laid.{lay_rules}
@@ -7,7 +7,7 @@ use Rattle.parts.specs.declared.Part.{Part}
 use Rattle.parts.specs.declared.Part.TheVariants.{Blank}
 use Rattle.rules.specs.Buffer.{padded, tree_of, Checked}
 use Rattle.rules.specs.Held.{room_of}
-use Rattle.rules.specs.Judged.{accepted, refused, judged}
+use Rattle.rules.specs.Judged.{judged}
 use Rattle.rules.specs.Outcome.{Judges, Fills}
 use Rattle.rules.specs.declared.sink.Sink.{Sink}
 

@@ -1,5 +1,5 @@
 -- The items of a list by number, one more.
-use Rattle.std.proofs.Common.{◌≡◌, ℕ, zero, suc, ◌+◌, List, [], ◌∷◌, ◌++◌, take, Some, None, Option, refl, ap, ◌∙◌, add-one, arith}
+use Rattle.std.proofs.Common.{◌≡◌, ℕ, zero, suc, ◌+◌, List, [], ◌∷◌, ◌++◌, take, Some, None, refl, ap, ◌∙◌, add-one, arith}
 use Rattle.std.specs.List.{slice_get}
 
 module _ {X : Type 0} where

@@ -1,5 +1,5 @@
 -- The order of judging a text.
-use Rattle.std.proofs.Common.{◌≡◌, ℕ, ◌%◌, ◌<◌, ◌≤◌, true, false, cond, eqb, ltb, leb, List, [], ◌++◌, length, Some, None, Option, sym, refl, ap, ◌∙◌, arith}
+use Rattle.std.proofs.Common.{◌≡◌, ℕ, ◌%◌, ◌<◌, ◌≤◌, true, false, cond, eqb, ltb, List, length, Some, None, Option, sym, ap, ◌∙◌}
 use Rattle.std.proofs.lemmas.Bool.{lt-ltb, le-ltb, eq-eqb, ne_eqb, le-leb, lt-leb, ltb-true, ltb-false}
 use Rattle.faults.specs.At.{fault_at}
 use Rattle.faults.specs.declared.Cause.TheVariants.{TextTooLong, OddByteCount, IllFormedRuleText, PartsTooShort}
@@ -7,16 +7,11 @@ use Rattle.faults.specs.declared.Fault.{Fault}
 use Rattle.units.specs.Form.{first_ill}
 use Rattle.units.specs.Units.{units}
 use Rattle.grammar.specs.Tree.{Rule}
-use Rattle.grammar.specs.Whole.{Parsed, rules, fault, parse}
+use Rattle.grammar.specs.Whole.{Parsed, rules, parse}
 use Rattle.checks.specs.Earliest.{earliest_from}
 use Rattle.parts.specs.Laid.{lay_rules}
 use Rattle.rules.specs.Buffer.{tree_of, tree_from}
-use Rattle.rules.specs.Held.{Holds, Put, room_of}
 use Rattle.rules.specs.Judged.{Verdict, accepted, refused, rules_faults, fitting, sound, derived, formed, judged}
-use Rattle.rules.specs.Outcome.{Accepted}
-use Rattle.rules.specs.Read.{Took}
-use Rattle.rules.specs.declared.read.Read.{Read}
-use Rattle.rules.specs.declared.sink.Sink.{Sink}
 
 module _ (bytes : List ℕ) (room : ℕ) where
   abbrev past_size : Verdict

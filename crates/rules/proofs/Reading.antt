@@ -1,10 +1,10 @@
 -- Rules read by a loop, each checked and put before the next.
-use Rattle.std.proofs.Common.{◌≡◌, ℕ, suc, ◌+◌, true, false, List, [], ◌∷◌, ◌++◌, length, Some, None, Ok, Err, Option, sym, refl, ap, ◌∙◌, subst, append_assoc, append-nil}
+use Rattle.std.proofs.Common.{◌≡◌, ℕ, suc, ◌+◌, true, false, List, [], ◌∷◌, ◌++◌, Some, None, Ok, Err, Option, sym, refl, ap, ◌∙◌, append_assoc, append-nil}
 use Rattle.std.proofs.lemmas.List.{length_push}
 use Rattle.faults.specs.declared.Fault.{Fault}
 use Rattle.words.specs.Words.{Word}
 use Rattle.grammar.specs.Parse.{ARule, Rules, RuleSet, rules_begin}
-use Rattle.grammar.specs.Readers.{Got, got, next}
+use Rattle.grammar.specs.Readers.{got, next}
 use Rattle.grammar.specs.Tree.{Rule}
 use Rattle.cursor.proofs.Many.{pre, pre_none}
 use Rattle.cursor.specs.Reading.{Reading, stopped}
@@ -17,7 +17,6 @@ use Rattle.parts.specs.Laid.{lay_rule, lay_rules}
 use Rattle.rules.specs.Held.{Put}
 use Rattle.rules.specs.Judged.{rules_faults}
 use Rattle.rules.specs.Read.{Ends, Took}
-use Rattle.rules.specs.declared.read.Read.{Read}
 use Rattle.rules.specs.declared.sink.Sink.{Sink}
 use Rattle.rules.proofs.Filling.{put_none, put_twice, put_as}
 

@@ -5,7 +5,7 @@ use Rattle.words.specs.Words.{Word, words}
 use Rattle.grammar.specs.Parse.{RuleSet}
 use Rattle.grammar.specs.Readers.{Got, got}
 use Rattle.grammar.specs.Tree.{Rule}
-use Rattle.grammar.specs.Whole.{Parsed, rules, fault, whole, ends, parse}
+use Rattle.grammar.specs.Whole.{rules, fault, whole, ends, parse}
 use Rattle.cursor.specs.Reading.{stopped, fault_of, is_none}
 use Rattle.cursor.specs.declared.pieces.Stop.{Stop}
 use Rattle.cursor.specs.declared.pieces.Stop.TheVariants.{Useless, Past}

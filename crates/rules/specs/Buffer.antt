@@ -1,5 +1,5 @@
 -- What the buffer for the parts holds after loading, and what checked rules are.
-use Rattle.std.specs.Prelude.{◌≡◌, ℕ, ◌-◌, List, [], ◌∷◌, ◌++◌, length, take, replicate}
+use Rattle.std.specs.Prelude.{◌≡◌, ℕ, ◌-◌, List, [], ◌++◌, length, take, replicate}
 use Rattle.units.specs.Units.{units}
 use Rattle.grammar.specs.Tree.{Rule}
 use Rattle.grammar.specs.Whole.{Parsed, rules, fault, parse}

@@ -1,5 +1,5 @@
 -- What loading answers of the bytes of a rule text, with room for so many parts: the rules, or the first fault in the order of judging.
-use Rattle.std.specs.Prelude.{ℕ, ◌%◌, Bool, true, false, cond, List, [], ◌∷◌, ◌++◌, length, replicate, Some, None, Option, ◌==◌, nat_le, nat_lt}
+use Rattle.std.specs.Prelude.{ℕ, ◌%◌, Bool, true, false, cond, List, [], ◌∷◌, ◌++◌, length, Some, None, Option, ◌==◌, nat_le, nat_lt}
 use Rattle.faults.specs.At.{fault_at}
 use Rattle.faults.specs.declared.Cause.TheVariants.{TextTooLong, OddByteCount, IllFormedRuleText, PartsTooShort}
 use Rattle.faults.specs.declared.Fault.{Fault}

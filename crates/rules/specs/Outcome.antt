@@ -1,12 +1,12 @@
 -- What judging a text into a sink answers, and what it leaves there.
-use Rattle.std.specs.Prelude.{◌≡◌, ℕ, List, [], length, replicate, Ok, Err, Result}
+use Rattle.std.specs.Prelude.{◌≡◌, ℕ, List, length, replicate, Ok, Err, Result}
 use Rattle.faults.specs.declared.Fault.{Fault}
 use Rattle.parts.specs.Laid.{lay_rules}
 use Rattle.parts.specs.declared.Part.{Part}
 use Rattle.parts.specs.declared.Part.TheVariants.{Blank}
 use Rattle.rules.specs.Buffer.{Checked, tree_of}
 use Rattle.rules.specs.Held.{Holds, room_of}
-use Rattle.rules.specs.Judged.{Verdict, accepted, refused, judged}
+use Rattle.rules.specs.Judged.{accepted, refused, judged}
 use Rattle.rules.specs.declared.sink.Sink.{Sink}
 
 -- accepted, and the parts of so many rules were put

@@ -1,4 +1,6 @@
 // Rule texts.
+#![tactic(auto)]
+
 mod checked;
 mod judge;
 mod lay;

@@ -1,6 +1,8 @@
 // A store means a list of claims between a floor and a capacity: append puts a claim at its end, cut keeps its front.
 // The table lies in a lent buffer; the overlay puts claims of its own behind those of any source.
 // Whoever works over any store is proved once, from the trait alone.
+#![tactic(auto)]
+
 mod lent;
 mod overlays;
 mod own;

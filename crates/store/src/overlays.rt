@@ -48,9 +48,9 @@ impl<S: Source> Source for Overlay<S> {
 }
 
 impl<S: Source> Store for Overlay<S> {
-    ghost floorOf = { λ o. floor_over (S.Source.list o.base) };
+    ghost floor_of = { λ o. floor_over (S.Source.list o.base) };
 
-    ghost capOf = { λ o. capacity_over (S.Source.list o.base) };
+    ghost cap_of = { λ o. capacity_over (S.Source.list o.base) };
 
     fn floor(&self) -> usize {
         self.base.count()

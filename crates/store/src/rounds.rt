@@ -8,7 +8,7 @@ use faults::Fault;
 
 // Puts a claim to the store, reads it back and cuts to the floor. A refusal leaves the store as it was.
 pub fn append_read_cut<S: Store>(store: &mut S, claim: Claim) -> Result<Option<Claim>, Fault>
-    ensures { Round (S.Store.floorOf store.old) (S.Store.capOf store.old) (S.Source.list store.old) claim (S.Source.list store.new) (store.new ≡ store.old) result }
+    ensures { Round (S.Store.floor_of store.old) (S.Store.cap_of store.old) (S.Source.list store.old) claim (S.Source.list store.new) (store.new ≡ store.old) result }
 {
     let floor = store.floor();
     let at = store.count();

@@ -8,24 +8,24 @@ use faults::Fault;
 
 // Floor and capacity never change, and the list's length stays between them. A refusal leaves the whole value as it was.
 pub trait Store: Source {
-    ghost floorOf: { Self → ℕ };
+    ghost floor_of: { Self → ℕ };
 
-    ghost capOf: { Self → ℕ };
+    ghost cap_of: { Self → ℕ };
 
     fn floor(&self) -> usize
-        ensures value { result ≡ floorOf self.now }
-        ensures bounds { Bounds (floorOf self.now) (Self.Source.list self.now) (capOf self.now) }
+        ensures value { result ≡ floor_of self.now }
+        ensures bounds { Bounds (floor_of self.now) (Self.Source.list self.now) (cap_of self.now) }
         ensures same { self.now ≡ self.now };
 
     // One claim at the end; refused exactly where the list is as long as the capacity.
     fn append(&mut self, claim: Claim) -> Result<(), Fault>
-        ensures cases { Appended (Self.Source.list self.old) (capOf self.old) claim (Self.Source.list self.new) (self.new ≡ self.old) result }
-        ensures bounds { Bounds (floorOf self.new) (Self.Source.list self.new) (capOf self.new) }
-        ensures kept { Kept (floorOf self.old) (capOf self.old) (floorOf self.new) (capOf self.new) };
+        ensures cases { Appended (Self.Source.list self.old) (cap_of self.old) claim (Self.Source.list self.new) (self.new ≡ self.old) result }
+        ensures bounds { Bounds (floor_of self.new) (Self.Source.list self.new) (cap_of self.new) }
+        ensures kept { Kept (floor_of self.old) (cap_of self.old) (floor_of self.new) (cap_of self.new) };
 
     // The first n claims stay; refused exactly where n lies outside floor to length.
     fn cut(&mut self, n: usize) -> Result<(), Fault>
-        ensures cases { Cut (floorOf self.old) (Self.Source.list self.old) n (Self.Source.list self.new) (self.new ≡ self.old) result }
-        ensures bounds { Bounds (floorOf self.new) (Self.Source.list self.new) (capOf self.new) }
-        ensures kept { Kept (floorOf self.old) (capOf self.old) (floorOf self.new) (capOf self.new) };
+        ensures cases { Cut (floor_of self.old) (Self.Source.list self.old) n (Self.Source.list self.new) (self.new ≡ self.old) result }
+        ensures bounds { Bounds (floor_of self.new) (Self.Source.list self.new) (cap_of self.new) }
+        ensures kept { Kept (floor_of self.old) (cap_of self.old) (floor_of self.new) (cap_of self.new) };
 }

@@ -43,9 +43,9 @@ impl<'a> Source for Table<'a> {
 }
 
 impl<'a> Store for Table<'a> {
-    ghost floorOf = { λ t. floor_in t };
+    ghost floor_of = { λ t. floor_in t };
 
-    ghost capOf = { λ t. capacity_in t };
+    ghost cap_of = { λ t. capacity_in t };
 
     fn floor(&self) -> usize {
         0

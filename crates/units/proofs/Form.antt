@@ -2,7 +2,7 @@
 use Rattle.std.proofs.Common.{◌≡◌, ℕ, zero, suc, ◌+◌, ◌<◌, ◌≤◌, Bool, true, false, cond, List, [], ◌∷◌, length, get_or, drop, Some, None, Option, sym, refl, ap, ◌∙◌, subst, add-zero, zero-add, add-one, arith}
 use Rattle.std.proofs.lemmas.Bool.{cond-true, cond-false}
 use Rattle.std.proofs.lemmas.List.{drop_more, drop_all, get_or-drop}
-use Rattle.units.specs.Form.{ill, ill_at, first_ill, FirstIll}
+use Rattle.units.specs.Form.{ill, first_ill, FirstIll}
 
 -- what a pass that starts behind `before` finds
 abbrev IllFrom : ℕ → List ℕ → ℕ → Bool

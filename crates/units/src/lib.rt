@@ -1,6 +1,8 @@
 // UTF-16 text in bytes, high byte first: its units, whether it is well formed, and when two texts are equal.
 // A text is a list of units; the bytes of a text are a slice, of which a last odd byte is no unit.
 // Every function answers by that list alone.
+#![tactic(auto)]
+
 ghost use Rattle.std.specs.Prelude.{◌≡◌, ◌<◌, length, take, drop, slice_index};
 ghost use Rattle.std.specs.List.{slice_get};
 ghost use Rattle.units.specs.Fold.{fold_unit, Same};

@@ -5,7 +5,7 @@ use Rattle.std.proofs.lemmas.Bool.{cond-true, cond-false}
 use Rattle.std.specs.List.{prefix_len}
 use Rattle.words.specs.Places.{from, word_at}
 use Rattle.words.specs.Tokens.{spelled_as, word_of, WordAt, Reads}
-use Rattle.words.specs.Words.{Word, Spelled, blank, spelled, words_from, words}
+use Rattle.words.specs.Words.{blank, spelled, words_from}
 use Rattle.words.specs.declared.tokens.Lexeme.{Lexeme}
 
 -- units that belong to a word that is read already

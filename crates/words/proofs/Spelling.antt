@@ -1,9 +1,9 @@
 -- The word at a place, as the definition spells it.
-use Rattle.std.proofs.Common.{◌≡◌, ℕ, zero, suc, ◌+◌, ◌-◌, ◌<◌, ◌≤◌, Bool, true, false, cond, ◌&&◌, eqb, leb, List, [], ◌∷◌, length, get_or, take, drop, Some, None, Option, sym, refl, ap, ◌∙◌, subst, inl, inr, add-zero, arith}
-use Rattle.std.proofs.lemmas.List.{drop_more, drop_all, drop-drop, get_or-drop, get_or_past, length-drop, length-take-le}
+use Rattle.std.proofs.Common.{◌≡◌, ℕ, ◌+◌, ◌-◌, ◌<◌, ◌≤◌, Bool, true, false, cond, ◌&&◌, eqb, leb, List, [], ◌∷◌, length, get_or, take, drop, Some, None, Option, sym, refl, ap, ◌∙◌, subst, inl, inr, add-zero, arith}
+use Rattle.std.proofs.lemmas.List.{drop_more, drop-drop, get_or-drop, get_or_past, length-drop, length-take-le}
 use Rattle.std.proofs.lemmas.List.Sums.{prefix_len-le-length, prefix_len-drop_yes}
 use Rattle.std.proofs.lemmas.Bool.{cases_lt, cond-true, cond-false, le-leb, lt-leb, eq-eqb, ne_eqb, or_left, and_parts, eqb-true, eqb-false}
-use Rattle.std.specs.List.{prefix_len, AllByRecursion as All}
+use Rattle.std.specs.List.{prefix_len, AllByRecursion}
 use Rattle.words.specs.Signs.{fits, sign_in, sign_of, sign_word}
 use Rattle.words.specs.Terminals.{Kind, terminal, unreadable, symbols, keywords, value_types}
 use Rattle.words.specs.Words.{Spelled, letter, in_name, in_string, begins, spelled_by, no_word, symbol, name_word, name, quoted_word, string, front, within, spelled}
@@ -38,12 +38,12 @@ chosen : (b c : Bool) (t : Terminal) (n : ℕ) (x : Spelled) (o : Option Sign) (
 chosen b true t n x o us e f = ap (λ d. cond d (word (terminal t) n []) x) e
 chosen b false t n x o us e f = ap (λ d. cond d (word (terminal t) n []) x) e ∙ f
 
-table_signs : (ts : List (List ℕ × Terminal)) (u : ℕ) (us : List ℕ) → All (λ t. Entry t.0) ts → symbol ts (u ∷ us) ≡ sign_word (sign_in ts u (get_or us 0 0)) (u ∷ us)
+table_signs : (ts : List (List ℕ × Terminal)) (u : ℕ) (us : List ℕ) → AllByRecursion (λ t. Entry t.0) ts → symbol ts (u ∷ us) ≡ sign_word (sign_in ts u (get_or us 0 0)) (u ∷ us)
 table_signs [] u us h = refl
 table_signs (t ∷ ts) u us h =
     chosen (begins t.0 (u ∷ us)) (fits t.0 u (get_or us 0 0)) t.1 (length t.0) (symbol ts (u ∷ us)) (sign_in ts u (get_or us 0 0)) (u ∷ us) (begins_fits t.0 u us h.0) (table_signs ts u us h.1)
 
-entries : All (λ t. Entry t.0) symbols
+entries : AllByRecursion (λ t. Entry t.0) symbols
 entries = (refl, (refl, (refl, (tt, (refl, (refl, (refl, (tt, (tt, (tt, (tt, (tt, (tt, (tt, (tt, tt)))))))))))))))
 
 -- how long a sign is: one unit, or two where the second is no 0000
@@ -69,7 +69,7 @@ chosen_long : (b : Bool) (x s : Sign) (o : Option Sign) (v : ℕ) → (b ≡ tru
 chosen_long true x s o v f g e = let is : x ≡ s = cc in subst (λ y. Long y v) is (f refl)
 chosen_long false x s o v f g e = g e
 
-sign_long : (ts : List (List ℕ × Terminal)) (u v : ℕ) (s : Sign) → All (λ t. Entry t.0) ts → Some s ≡ sign_in ts u v → Long s v
+sign_long : (ts : List (List ℕ × Terminal)) (u v : ℕ) (s : Sign) → AllByRecursion (λ t. Entry t.0) ts → Some s ≡ sign_in ts u v → Long s v
 sign_long [] u v s h e = let z : ◌≡◌ {A = ℕ} 0 1 = cc in absurd (omega arith)
 sign_long (t ∷ ts) u v s h e =
     chosen_long (fits t.0 u v) (record { terminal = t.1; long = length t.0 }) s (sign_in ts u v) v (entry_long t.0 t.1 u v h.0) (sign_long ts u v s h.1) e

@@ -1,5 +1,5 @@
 -- The terminal that two units begin, told by their characters.
-use Rattle.std.specs.Prelude.{ℕ, Bool, true, false, cond, ◌&&◌, List, [], ◌∷◌, length, Some, None, Option, ◌==◌}
+use Rattle.std.specs.Prelude.{ℕ, Bool, false, cond, ◌&&◌, List, [], ◌∷◌, length, Some, None, Option, ◌==◌}
 use Rattle.words.specs.Terminals.{terminal, symbols}
 use Rattle.words.specs.Words.{Spelled, no_word}
 use Rattle.words.specs.declared.signs.Sign.{Sign}

@@ -1,6 +1,8 @@
 // The words of a rule text, read one at a time from a place on.
 // A word is a terminal of the rule language, and a name or a string borrows its units from the text.
 // Units that are no word are told by why, at their first unit.
+#![tactic(auto)]
+
 mod reads;
 mod signs;
 mod terminals;

@@ -1,14 +1,13 @@
 -- The bytes of records, one record after the other.
-use Rattle.std.proofs.Common.{◌≡◌, ℕ, zero, suc, ◌+◌, ◌*◌, ◌<◌, ◌≤◌, false, ◌||◌, ltb, List, [], ◌∷◌, ◌++◌, length, get_or, take, drop, Some, None, Ok, Err, Option, sym, refl, ap, ◌∙◌, append_assoc, arith, length-append}
+use Rattle.std.proofs.Common.{◌≡◌, ℕ, zero, suc, ◌+◌, ◌<◌, ◌≤◌, List, [], ◌∷◌, ◌++◌, length, get_or, take, drop, Some, None, sym, refl, ap, ◌∙◌, append_assoc, arith, length-append}
 use Rattle.std.proofs.ByRecursion.{All-push, All-get_or}
-use Rattle.std.proofs.lemmas.List.{take_more, map_push, flat_map_more, map-append, take-append-drop, take_all, take_at, length-map}
-use Rattle.std.proofs.lemmas.Option.{slice_get_past, slice_get-get_or}
-use Rattle.std.proofs.lemmas.Bool.{cond-true, cond-false, or_left, or_right, or_from, lt-ltb, le-ltb}
-use Rattle.std.specs.List.{AllByRecursion as All, slice_get}
+use Rattle.std.proofs.lemmas.List.{take_more, map_push, flat_map_more, map-append, take-append-drop, take_all}
+use Rattle.std.proofs.lemmas.Option.{slice_get-get_or}
+use Rattle.std.specs.List.{AllByRecursion, slice_get}
 use Rattle.claims.specs.Meaning as meaning
 use Rattle.claims.specs.declared.records.Claim.{Claim}
-use Rattle.packet.proofs.Claims.{length-encode, judge_packet}
-use Rattle.packet.specs.Format.{head_of, encode, body, packet}
+use Rattle.packet.proofs.Claims.{length-encode}
+use Rattle.packet.specs.Format.{encode, body}
 use Rattle.packet.specs.Judge.{size}
 use Rattle.writer.proofs.Written.{written_more}
 use Rattle.writer.specs.Shown.{shown_claim, shown_claims, shown_body, Writable}
@@ -30,7 +29,7 @@ module _ {X : Type 0} (xs : List X) (i : ℕ) (x : X) (e : Some x ≡ slice_get 
   pub take_found : take (i + 1) xs ≡ take i xs ++ x ∷ []
   take_found = take_more xs i x found_below ∙ ap (λ y. take i xs ++ y ∷ []) found_is
 
-  pub all_found : (P : X → Type 0) → All P xs → P x
+  pub all_found : (P : X → Type 0) → AllByRecursion P xs → P x
   all_found P h = rw found_is at (All-get_or P xs i x found_below h)
 
 pub not_found : {X : Type 0} {Y : Type 0} (xs : List X) (i : ℕ) → None ≡ slice_get xs i → i < length xs → Y
@@ -71,7 +70,7 @@ module _ (rules packet' : List ℕ) (cs : List Claim) where
         ap length body_more ∙ length-append (shown_body rules packet' (take i cs)) (encode (shown_claim rules packet' c))
         ∙ ap (λ n. length (shown_body rules packet' (take i cs)) + n) (length-encode (shown_claim rules packet' c))
 
-    pub writable_more : All (Writable rules packet') (take i cs) → Writable rules packet' c → All (Writable rules packet') (take (i + 1) cs)
+    pub writable_more : AllByRecursion (Writable rules packet') (take i cs) → Writable rules packet' c → AllByRecursion (Writable rules packet') (take (i + 1) cs)
     writable_more h w = rw (take_found cs i c e) (All-push (Writable rules packet') (take i cs) c h w)
 
     pub written_next : (old p q : List ℕ) (at : ℕ) → 3 + length (shown_body rules packet' cs) ≤ length old → at ≡ 3 + length (shown_body rules packet' (take i cs))

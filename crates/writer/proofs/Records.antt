@@ -1,16 +1,15 @@
 -- A record is writable when its parts fit and its word names the value's type.
-use Rattle.std.proofs.Common.{◌≡◌, ℕ, Bool, true, false, List, [], ◌∷◌, map, Some, None, Decides, Option, unwrap_or, sym, refl, ap, ◌∙◌, subst, arith}
+use Rattle.std.proofs.Common.{◌≡◌, ℕ, Bool, false, List, [], Some, None, Decides, Option, unwrap_or, sym, refl, ap, ◌∙◌, subst, arith}
 use Rattle.std.specs.Option.{option_map}
-use Rattle.std.specs.List.{AllByRecursion as All}
-use Rattle.claims.specs.Claims.{onward, text_of, value_of, claim_of, claims_of}
+use Rattle.claims.specs.Claims.{onward, text_of, value_of, claim_of}
 use Rattle.claims.specs.Meaning as meaning
 use Rattle.claims.specs.Meaning.{named, type_of}
 use Rattle.claims.specs.declared.records.Claim.{Claim}
 use Rattle.claims.specs.declared.texts.Text.{Text}
 use Rattle.claims.specs.declared.values.Value.{Value}
 use Rattle.claims.specs.declared.values.Value.TheVariants.{Uint64, Int64, String, Boolean}
-use Rattle.packet.specs.Carriable.{Short, Fits, Carriable}
-use Rattle.writer.specs.Shown.{Writable, Carried, shown_text, shown_value, shown_claim, TextFits, ValueTextFits, ValueFits, PartsFit, Names}
+use Rattle.packet.specs.Carriable.{Short, Fits}
+use Rattle.writer.specs.Shown.{Writable, shown_text, shown_value, shown_claim, TextFits, ValueTextFits, PartsFit, Names}
 use Rattle.writer.proofs.Texts.{never}
 
 clash : {X Y : Type 0} (x : Y) → ◌≡◌ {A = Option Y} None (Some x) → X

@@ -1,9 +1,9 @@
 -- A whole packet: what writing answers, and what the buffer holds.
-use Rattle.std.proofs.Common.{◌≡◌, ℕ, ◌+◌, ◌<◌, ◌≤◌, Bool, true, false, cond, ◌||◌, ltb, ◌⊎◌, List, [], ◌∷◌, ◌++◌, map, length, get_or, take, drop, is_ok, Some, None, Ok, Err, Option, Result, sym, refl, ap, ◌∙◌, subst, inl, inr, arith}
+use Rattle.std.proofs.Common.{◌≡◌, ℕ, ◌+◌, ◌<◌, ◌≤◌, true, false, ◌||◌, ltb, ◌⊎◌, List, [], ◌∷◌, ◌++◌, length, get_or, take, drop, is_ok, Some, None, Ok, Err, Option, Result, sym, refl, ap, ◌∙◌, subst, inl, inr, arith}
 use Rattle.std.proofs.lemmas.List.{take_at, length-map}
 use Rattle.std.proofs.lemmas.Bool.{cases_lt, cond-true, cond-false, or_left, or_right, or_from, lt-ltb, le-ltb}
 use Rattle.std.specs.Option.{option_map}
-use Rattle.std.specs.List.{AllByRecursion as All}
+use Rattle.std.specs.List.{AllByRecursion}
 use Rattle.claims.specs.Claims.{onward, claim_of, claims_of}
 use Rattle.claims.specs.Meaning as meaning
 use Rattle.claims.specs.declared.records.Claim.{Claim}
@@ -29,7 +29,7 @@ clash x e = let z : ◌≡◌ {A = ℕ} 0 1 = cc in absurd (omega arith)
 
 module _ (rules packet' : List ℕ) where
   -- the claims of writable records are those that they show
-  pub all_stand : (cs : List Claim) → All (Writable rules packet') cs → claims_of rules packet' cs ≡ Some (shown_claims rules packet' cs)
+  pub all_stand : (cs : List Claim) → AllByRecursion (Writable rules packet') cs → claims_of rules packet' cs ≡ Some (shown_claims rules packet' cs)
   all_stand [] h = refl
   all_stand (c ∷ cs) h =
       let m = h.0.0 in
@@ -37,7 +37,7 @@ module _ (rules packet' : List ℕ) where
       ap (λ o. onward o (λ d. option_map (λ ds. d ∷ ds) (claims_of rules packet' cs))) e
       ∙ ap (option_map (λ ds. shown_claim rules packet' c ∷ ds)) (all_stand cs h.1)
 
-  pub all_carriable : (cs : List Claim) → All (Writable rules packet') cs → All Carriable (shown_claims rules packet' cs)
+  pub all_carriable : (cs : List Claim) → AllByRecursion (Writable rules packet') cs → AllByRecursion Carriable (shown_claims rules packet' cs)
   all_carriable [] h = tt
   all_carriable (c ∷ cs) h = (subst Carriable (sym (shown_claim_is rules packet' c h.0.0 h.0.1)) h.0.2, all_carriable cs h.1)
 
@@ -47,18 +47,18 @@ module _ (rules packet' : List ℕ) where
   first_some (Some d) None ms e = clash ms e
   first_some (Some d) (Some ds) ms e = let is : ◌≡◌ {A = List meaning.Claim} ms (d ∷ ds) = cc in (d, ds, refl, refl, is)
 
-  pub writable_all : (cs : List Claim) (ms : List meaning.Claim) → claims_of rules packet' cs ≡ Some ms → All Carriable ms → All (Writable rules packet') cs
+  pub writable_all : (cs : List Claim) (ms : List meaning.Claim) → claims_of rules packet' cs ≡ Some ms → AllByRecursion Carriable ms → AllByRecursion (Writable rules packet') cs
   writable_all [] ms e h = tt
   writable_all (c ∷ cs) ms e h =
       let f = first_some (claim_of rules packet' c) (claims_of rules packet' cs) ms e in
-      let k : All Carriable (f.0 ∷ f.1) = subst (All Carriable) f.4 h in
+      let k : AllByRecursion Carriable (f.0 ∷ f.1) = subst (AllByRecursion Carriable) f.4 h in
       ((f.0, f.2, k.0), writable_all cs f.1 f.3 k.1)
 
   module _ (cs : List Claim) (old : List ℕ) where
-    pub refused_uncarriable : (f : Fault) → f ≡ fault_at UncarriableClaim 0 → (All (Writable rules packet') cs → ⊥) → Wrote rules packet' cs old old (Err f)
+    pub refused_uncarriable : (f : Fault) → f ≡ fault_at UncarriableClaim 0 → (AllByRecursion (Writable rules packet') cs → ⊥) → Wrote rules packet' cs old old (Err f)
     refused_uncarriable f e h = record { claims = None; carried = λ ms is each. h (writable_all cs ms is each); answer = ap Err e; buffer = refl; reread = tt }
 
-    pub refused_large : (f : Fault) (n : ℕ) → All (Writable rules packet') cs → f ≡ fault_at PacketTooLarge 0 → n ≡ length (shown_body rules packet' cs)
+    pub refused_large : (f : Fault) (n : ℕ) → AllByRecursion (Writable rules packet') cs → f ≡ fault_at PacketTooLarge 0 → n ≡ length (shown_body rules packet' cs)
         → (256 < length cs) ⊎ (32765 < n) → Wrote rules packet' cs old old (Err f)
     refused_large f n all e is over =
         let l = length-map cs (shown_claim rules packet') in
@@ -75,7 +75,7 @@ module _ (rules packet' : List ℕ) where
           reread = tt;
         }
 
-    module _ (n : ℕ) (all : All (Writable rules packet') cs) (is : n ≡ length (shown_body rules packet' cs)) (few : length cs ≤ 256) (short : n ≤ 32765) where
+    module _ (n : ℕ) (all : AllByRecursion (Writable rules packet') cs) (is : n ≡ length (shown_body rules packet' cs)) (few : length cs ≤ 256) (short : n ≤ 32765) where
       within : (ltb 256 (length (shown_claims rules packet' cs)) || ltb 32765 (length (shown_body rules packet' cs))) ≡ false
       within = let l = length-map cs (shown_claim rules packet') in or_from _ _ (le-ltb 256 (length (shown_claims rules packet' cs)) (omega arith)) (le-ltb 32765 (length (shown_body rules packet' cs)) (omega arith))
 

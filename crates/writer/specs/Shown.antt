@@ -1,7 +1,7 @@
 -- What a record is written as, and when a packet can carry it.
-use Rattle.std.specs.Prelude.{◌≡◌, ℕ, true, List, [], map, length, Some, None, Option}
+use Rattle.std.specs.Prelude.{◌≡◌, ℕ, List, [], map, length, Some, None, Option}
 use Rattle.std.specs.Option.{unwrap_or}
-use Rattle.std.specs.List.{AllByRecursion as All}
+use Rattle.std.specs.List.{AllByRecursion}
 use Rattle.claims.specs.Claims.{text_of, value_of, claim_of, claims_of}
 use Rattle.claims.specs.Meaning as meaning
 use Rattle.claims.specs.Meaning.{named, type_of}
@@ -18,8 +18,8 @@ Writable rules packet c = (m : meaning.Claim) × (claim_of rules packet c ≡ So
 
 -- the claims of records that are all writable; none where one is not
 abbrev pub Carried : List ℕ → List ℕ → List Claim → Option (List meaning.Claim) → Type 0
-Carried rules packet cs (Some ms) = (claims_of rules packet cs ≡ Some ms) × All Carriable ms
-Carried rules packet cs None = (ms : List meaning.Claim) → claims_of rules packet cs ≡ Some ms → All Carriable ms → ⊥
+Carried rules packet cs (Some ms) = (claims_of rules packet cs ≡ Some ms) × AllByRecursion Carriable ms
+Carried rules packet cs None = (ms : List meaning.Claim) → claims_of rules packet cs ≡ Some ms → AllByRecursion Carriable ms → ⊥
 
 -- a text that lies outside shows no unit
 abbrev pub shown_text : List ℕ → List ℕ → Text → List ℕ
@@ -68,5 +68,5 @@ shown_body rules packet cs = body (shown_claims rules packet cs)
 
 -- the bytes that the records take, if each of them is writable
 abbrev pub Measured : List ℕ → List ℕ → List Claim → Option ℕ → Type 0
-Measured rules packet cs None = All (Writable rules packet) cs → ⊥
-Measured rules packet cs (Some n) = All (Writable rules packet) cs × (n ≡ length (shown_body rules packet cs))
+Measured rules packet cs None = AllByRecursion (Writable rules packet) cs → ⊥
+Measured rules packet cs (Some n) = AllByRecursion (Writable rules packet) cs × (n ≡ length (shown_body rules packet cs))

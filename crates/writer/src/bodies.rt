@@ -1,6 +1,6 @@
 // The claims of a source, one after the other: measured, and then written behind the head.
 ghost use Rattle.std.specs.Prelude.{◌≡◌, ◌+◌, ◌≤◌, length};
-ghost use Rattle.std.specs.List.{AllByRecursion as All};
+ghost use Rattle.std.specs.List.{AllByRecursion};
 ghost use Rattle.writer.specs.Shown.{Measured, Writable, shown_body};
 ghost use Rattle.writer.specs.Writing.{written};
 
@@ -27,7 +27,7 @@ pub fn body_size<S: Source>(source: &S, rules: &[u8], packet: &[u8]) -> Option<u
 }
 
 pub fn write_body<S: Source>(source: &S, rules: &[u8], packet: &[u8], out: &mut [u8])
-    requires { (All (Writable rules.now packet.now) (S.Source.list source.now)) × (3 + length (shown_body rules.now packet.now (S.Source.list source.now)) ≤ length out.old) }
+    requires { (AllByRecursion (Writable rules.now packet.now) (S.Source.list source.now)) × (3 + length (shown_body rules.now packet.now (S.Source.list source.now)) ≤ length out.old) }
     ensures { out.new ≡ written out.old 3 (shown_body rules.now packet.now (S.Source.list source.now)) }
 {
     let mut at = 3;

@@ -1,4 +1,4 @@
-use Rattle.std.proofs.Common.{◌≡◌, ℕ, cond, get_or, sym, ap, ◌∙◌}
+use Rattle.std.proofs.Common.{ℕ, cond, get_or, ap, ◌∙◌}
 use lib.Bits.{bit_or}
 use Rattle.automaton.specs.Places.{bit}
 use Rattle.automaton.proofs.Turns.{reach_turn}

@@ -1,4 +1,4 @@
-use Rattle.std.proofs.Common.{[], ◌∷◌, ◌++◌, sym, ap, ◌∙◌, take_all, rules}
+use Rattle.std.proofs.Common.{take_all, rules}
 use Rattle.std.proofs.lemmas.List.{take_more_set, replicate_more}
 use Rattle.list.proofs.fill.Goals as goal
 

@@ -1,4 +1,4 @@
-use Rattle.std.proofs.Common.{◌≡◌, ◌≤◌, take, replicate}
+use Rattle.std.proofs.Common.{◌≡◌, take, replicate}
 use Rattle.list.proofs.fill.Given as goal
 
 abbrev pub invariant-loop-s : goal.invariant-loop-s

@@ -1,10 +1,10 @@
-use Rattle.std.proofs.Common.{Ok, Err, sym, refl, ap, ◌∙◌, inl, inr}
+use Rattle.std.proofs.Common.{Ok, Err, refl, inl, inr}
 use Rattle.std.proofs.lemmas.List.{get_or-replicate}
 use Rattle.faults.specs.declared.Cause.TheVariants.{MalformedPattern, PatternOverLimit}
 use Rattle.units.specs.Units.{units}
 use Rattle.pattern.proofs.Caused.{told_cause}
 use Rattle.pattern.proofs.Whole.{malformed, well_formed_passed, over, accepted}
-use Rattle.pattern.specs.Judged.{Reads, Refusal, Accepted}
+use Rattle.pattern.specs.Judged.{Refusal}
 use Rattle.pattern.proofs.read.Goals as goal
 
 pub returns-then-not-well_formed : goal.returns-then-not-well_formed

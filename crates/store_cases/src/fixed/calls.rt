@@ -36,9 +36,9 @@ impl Source for Fixed {
 }
 
 impl Store for Fixed {
-    ghost floorOf = { λ _. 1 };
+    ghost floor_of = { λ _. 1 };
 
-    ghost capOf = { λ _. 8 };
+    ghost cap_of = { λ _. 8 };
 
     fn floor(&self) -> usize {
         1

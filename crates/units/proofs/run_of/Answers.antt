@@ -1,4 +1,4 @@
-use Rattle.std.proofs.Common.{◌≡◌, ◌+◌, ◌/◌, min, length, ap, ◌∙◌, arith}
+use Rattle.std.proofs.Common.{◌≡◌, ◌/◌, min, length, ap, ◌∙◌, arith}
 use Rattle.units.specs.Units.{units}
 use Rattle.units.proofs.Texts.{length-units, units_part, run_cut}
 use Rattle.units.proofs.run_of.Goals as goal

@@ -1,4 +1,4 @@
-use Rattle.std.proofs.Common.{sym, ◌∙◌, arith, rules}
+use Rattle.std.proofs.Common.{arith, rules}
 use Rattle.units.proofs.Texts.{length-units, get_or-units}
 use Rattle.units.proofs.unit.Goals as goal
 

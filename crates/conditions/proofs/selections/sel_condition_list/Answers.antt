@@ -1,10 +1,9 @@
-use Rattle.std.proofs.Common.{◌≡◌, ℕ, suc, ◌+◌, ◌-◌, true, false, sym, refl, ap, ◌∙◌, arith, rules}
+use Rattle.std.proofs.Common.{◌≡◌, suc, ◌-◌, true, false, arith, rules}
 use Rattle.words.specs.declared.terminals.Terminal.TheVariants.{And}
-use Rattle.grammar.specs.Readers.{many}
 use Rattle.grammar.specs.Parse.{selections_begin, SelCondition, SelConditionList}
 use Rattle.cursor.specs.Reading.{rest, text_of}
 use Rattle.conditions.specs.Shown.{selections_of}
-use Rattle.cursor.proofs.Many.{pre, pre_none, item_stops, last, between_stops, more, over}
+use Rattle.cursor.proofs.Many.{pre_none, item_stops, last, between_stops, more, over}
 use Rattle.conditions.proofs.selections.sel_condition_list.Goals as goal
 
 pub loop-i-init : goal.loop-i-init

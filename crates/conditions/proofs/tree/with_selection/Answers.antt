@@ -1,4 +1,4 @@
-use Rattle.std.proofs.Common.{◌≡◌, [], ◌∷◌, map, take, sym, refl, ap, ◌∙◌, arith, rules}
+use Rattle.std.proofs.Common.{[], ◌∷◌, map, take, ap, ◌∙◌, arith, rules}
 use mathlib.Core.List.{map-append}
 use Rattle.std.proofs.lemmas.List.{take_more_set}
 use Rattle.conditions.specs.Shown.{selection_of}

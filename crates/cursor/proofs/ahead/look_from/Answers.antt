@@ -1,4 +1,4 @@
-use Rattle.std.proofs.Common.{◌≡◌, refl, rules}
+use Rattle.std.proofs.Common.{◌≡◌, rules}
 use Rattle.units.specs.Units.{units}
 use Rattle.cursor.proofs.Expecting.{seen_from}
 use Rattle.cursor.proofs.ahead.look_from.Goals as goal

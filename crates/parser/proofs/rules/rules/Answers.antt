@@ -1,8 +1,8 @@
-use Rattle.std.proofs.Common.{◌≡◌, ℕ, suc, ◌+◌, ◌-◌, true, false, sym, refl, ap, ◌∙◌, arith, rules}
+use Rattle.std.proofs.Common.{◌≡◌, suc, ◌-◌, arith, rules}
 use Rattle.grammar.specs.Parse.{RuleSet}
 use Rattle.cursor.specs.Reading.{rest, text_of}
 use Rattle.parser.specs.Shown.{rules_of}
-use Rattle.cursor.proofs.Many.{pre, pre_none}
+use Rattle.cursor.proofs.Many.{pre_none}
 use Rattle.parser.proofs.Listing.{no_rule, rule_stops, one_more, rule_over, rules_done}
 use Rattle.parser.proofs.rules.rules.Goals as goal
 

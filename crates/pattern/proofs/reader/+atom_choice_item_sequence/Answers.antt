@@ -1,4 +1,4 @@
-use Rattle.std.proofs.Common.{ℕ, List, sym, refl, arith, rules}
+use Rattle.std.proofs.Common.{sym, refl, arith, rules}
 use Rattle.units.specs.Units.{units}
 use Rattle.pattern.specs.Grammar.{choice, sequence, item, atom}
 use Rattle.pattern.proofs.Looks.{within_bytes, below_bytes}

@@ -1,4 +1,4 @@
-use Rattle.std.proofs.Common.{◌≡◌, ℕ, ◌<◌, length, sym, ap, ◌∙◌, arith}
+use Rattle.std.proofs.Common.{sym, ◌∙◌, arith}
 use Rattle.units.specs.Units.{units}
 use Rattle.pattern.proofs.Passing.{stop_pass, go_pass, end_pass}
 use Rattle.pattern.proofs.scan.well_formed.Goals as goal

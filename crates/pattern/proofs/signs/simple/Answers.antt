@@ -1,4 +1,4 @@
-use Rattle.std.proofs.Common.{sym, ap, ◌∙◌, arith, rules}
+use Rattle.std.proofs.Common.{◌∙◌, rules}
 use Rattle.units.specs.Units.{units}
 use Rattle.pattern.proofs.Looks.{within, within_bytes, no_simple, simple_plain, simple_last, simple_escaped}
 use Rattle.pattern.proofs.signs.simple.Goals as goal

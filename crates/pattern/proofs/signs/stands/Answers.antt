@@ -1,4 +1,4 @@
-use Rattle.std.proofs.Common.{sym, ap, ◌∙◌}
+use Rattle.std.proofs.Common.{sym, ap}
 use Rattle.units.specs.Units.{units}
 use Rattle.pattern.specs.Signs.{begins}
 use Rattle.pattern.proofs.Looks.{nothing_left, unit_left}

@@ -1,4 +1,4 @@
-use Rattle.std.proofs.Common.{◌≡◌, ◌+◌, ◌-◌, ◌*◌, ◌<◌, length, take, drop, sym, refl, ap, ◌∙◌, arith, rules}
+use Rattle.std.proofs.Common.{◌≡◌, ◌+◌, ◌-◌, length, take, drop, refl, ap, ◌∙◌, arith, rules}
 use Rattle.units.proofs.Texts.{length-units, units_part}
 use Rattle.units.specs.Units.{units}
 use Rattle.words.specs.declared.terminals.Slip.TheVariants.{NotClosed, TooLong}

@@ -1,7 +1,7 @@
 use Rattle.std.proofs.Common.{◌≤◌, length, refl, subst, arith}
 use Rattle.std.proofs.lemmas.List.{take_all}
 use Rattle.std.proofs.lemmas.Bool.Decides.{not_from_Decides}
-use Rattle.std.specs.List.{AllByRecursion as All}
+use Rattle.std.specs.List.{AllByRecursion}
 use Rattle.writer.specs.Shown.{Writable}
 use Rattle.writer.proofs.BodyBytes.{all_found, not_found, size_all, size_more, writable_more}
 use Rattle.writer.proofs.bodies.body_size.Goals as goal
@@ -27,6 +27,6 @@ pub returns : goal.returns
 returns g c =
     let cs = g.S.Source.list c.args.source.now in
     let all : length cs ≤ c.loop-i.i = omega (arith, c.count-i-end.ensures.value) in (
-      subst (All (Writable c.args.rules.now c.args.packet.now)) (take_all c.loop-i.i cs all) c.loop-i.invariant.1,
+      subst (AllByRecursion (Writable c.args.rules.now c.args.packet.now)) (take_all c.loop-i.i cs all) c.loop-i.invariant.1,
       size_all c.args.rules.now c.args.packet.now cs c.loop-i.i c.loop-i.sum all c.loop-i.invariant.0,
     )

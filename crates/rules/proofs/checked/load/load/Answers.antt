@@ -9,4 +9,8 @@ invariant_of-result-in-Err c =
     let ps = c.fill-filled.result.parts.now in
     let P : Result ℕ Fault → Type 0 = λ r. Fills c.args.text.now ps r in
     let k = subst P c.in-Err.is c.fill-filled.ensures.fills in
-    (empty_accepted (length ps), (empty_laid ps k.1, (sym (ap length empty_tree), tt)))
+    record {
+      accepted = empty_accepted (length ps);
+      laid = empty_laid ps k.1;
+      counted = sym (ap length empty_tree);
+    }

@@ -1,4 +1,4 @@
-use Rattle.std.proofs.Common.{true, sym, refl, ◌∙◌}
+use Rattle.std.proofs.Common.{true, sym, refl}
 use Rattle.rules.proofs.Filling.{put_room, put_full}
 use Rattle.rules.proofs.sink.Sink.put.Goals as goal
 
