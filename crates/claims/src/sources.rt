@@ -12,12 +12,12 @@ pub trait Source {
     fn count(&self) -> usize
         ensures value { result ≡ length (list self.now) }
         ensures few { result ≤ 512 }
-        ensures same { self.now ≡ self.now };
+        ensures same { self.exit.now ≡ self.entry.now };
 
     // The claim of a number from 0, or none past the end.
     fn claim_at(&self, n: usize) -> Option<Claim>
         ensures value { result ≡ slice_get (list self.now) n }
-        ensures same { self.now ≡ self.now };
+        ensures same { self.exit.now ≡ self.entry.now };
 }
 
 // A copy of one claim.

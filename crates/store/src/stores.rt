@@ -15,7 +15,7 @@ pub trait Store: Source {
     fn floor(&self) -> usize
         ensures value { result ≡ floor_of self.now }
         ensures bounds { Bounds (floor_of self.now) (Self.Source.list self.now) (cap_of self.now) }
-        ensures same { self.now ≡ self.now };
+        ensures same { self.exit.now ≡ self.entry.now };
 
     // One claim at the end; refused exactly where the list is as long as the capacity.
     fn append(&mut self, claim: Claim) -> Result<(), Fault>
