@@ -9,6 +9,6 @@ mod texts;
 mod values;
 
 pub use records::Claim;
-pub use sources::{Listed, One, Source};
-pub use texts::{Origin, Part, Text, claim_text};
+pub use sources::{Claims, Listed, One, Source};
+pub use texts::{Origin, Part, Text, Texts, claim_text};
 pub use values::{Value, ValueType, value_type};

@@ -1,5 +1,6 @@
 // A source of claims, the source of one claim, and a slice of records as a source.
-ghost use Rattle.std.specs.Prelude.{◌≡◌, ◌≤◌, List, [], ◌∷◌, length, take};
+ghost use Rattle.std.specs.Prelude.{◌≡◌, ◌≤◌, List, [], ◌∷◌, length, take, drop};
+ghost use Rattle.std.specs.Iterator.{YieldsFirst, item_count};
 ghost use Rattle.std.specs.List.{slice_get};
 ghost use Rattle.claims.specs.declared.records.Claim.{Claim as Record};
 
@@ -18,6 +19,38 @@ pub trait Source {
     fn claim_at(&self, n: usize) -> Option<Claim>
         ensures value { result ≡ slice_get (list self.now) n }
         ensures same { self.exit.now ≡ self.entry.now };
+}
+
+// The claims of a source, one after the other.
+#[derive(Drop)]
+pub struct Claims<'s, S: Source> {
+    source: &'s S,
+    next: usize,
+}
+
+impl<'s, S: Source> Claims<'s, S> {
+    pub fn of(source: &'s S) -> Claims<'s, S>
+        ensures { drop result.next (S.Source.list result.source.now) ≡ S.Source.list source.now }
+    {
+        Claims { source, next: 0 }
+    }
+}
+
+impl<'s, S: Source> Iterator for Claims<'s, S> {
+    type Item = Claim;
+
+    ghost next_gives = { YieldsFirst (λ c. drop c.next (S.Source.list c.source.now)) };
+
+    ghost remaining = { item_count (λ c. drop c.next (S.Source.list c.source.now)) };
+
+    fn next(&mut self) -> Option<Claim> {
+        let n = self.next;
+        if n >= self.source.count() {
+            return None;
+        }
+        self.next = n + 1;
+        self.source.claim_at(n)
+    }
 }
 
 // A copy of one claim.
@@ -74,10 +107,6 @@ impl<'a> Source for Listed<'a> {
     }
 
     fn claim_at(&self, n: usize) -> Option<Claim> {
-        if n < self.claims.len() {
-            Some(self.claims[n])
-        } else {
-            None
-        }
+        self.claims.get(n).copied()
     }
 }

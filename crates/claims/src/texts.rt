@@ -26,6 +26,40 @@ pub struct Part<'a> {
     pub place: u16,
 }
 
+// The rule text and the packet, in which the texts of claims lie.
+#[derive(Clone, Copy)]
+pub struct Texts<'a> {
+    pub rules: &'a [u8],
+    pub packet: &'a [u8],
+}
+
+impl<'a> Texts<'a> {
+    fn of(&self, origin: Origin) -> &'a [u8]
+        ensures { result.now ≡ source_of self.now.rules.now self.now.packet.now origin }
+    {
+        match origin {
+            Origin::Rules => self.rules,
+            Origin::Packet => self.packet,
+        }
+    }
+
+    // The text as a part of the rule text or of the packet, or none where it lies outside.
+    pub fn part(&self, text: Text) -> Option<Part<'a>>
+        ensures bytes { option_map (λ p. p.bytes.now) result ≡ part_of self.now.rules.now self.now.packet.now text }
+        ensures size { IfSome result (λ p. (length p.bytes.now ≡ 2 * text.len) × (text.len < 65536)) }
+        ensures place { IfSome result (λ p. (p.origin ≡ text.origin) × (p.place ≡ text.place)) }
+    {
+        let from = start(text);
+        let to = from + 2 * usize::from(text.len);
+        let bytes = self.of(text.origin).get(from..to)?;
+        Some(Part {
+            bytes,
+            origin: text.origin,
+            place: text.place,
+        })
+    }
+}
+
 fn start(text: Text) -> usize
     ensures { result ≡ start_of text }
 {

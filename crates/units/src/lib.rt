@@ -5,9 +5,41 @@
 
 ghost use Rattle.std.specs.Prelude.{◌≡◌, ◌<◌, length, take, drop, slice_index};
 ghost use Rattle.std.specs.List.{slice_get};
+ghost use Rattle.std.specs.Iterator.{YieldsFirst, item_count};
 ghost use Rattle.units.specs.Fold.{fold_unit, Same};
 ghost use Rattle.units.specs.Form.{ill, first_ill, well_formed, FirstIll};
 ghost use Rattle.units.specs.Units.{units};
+
+// The units of a text, one after the other.
+#[derive(Clone, Copy)]
+pub struct Units<'a> {
+    rest: &'a [u8],
+}
+
+impl<'a> Units<'a> {
+    pub fn of(text: &'a [u8]) -> Units<'a>
+        ensures { units result.rest.now ≡ units text.now }
+    {
+        Units { rest: text }
+    }
+}
+
+impl<'a> Iterator for Units<'a> {
+    type Item = u16;
+
+    ghost next_gives = { YieldsFirst (λ s. units s.rest.now) };
+
+    ghost remaining = { item_count (λ s. units s.rest.now) };
+
+    fn next(&mut self) -> Option<u16> {
+        let [high, low, rest @ ..] = self.rest else {
+            return None;
+        };
+        let unit = u16::from_be_bytes([*high, *low]);
+        self.rest = rest;
+        Some(unit)
+    }
+}
 
 // How many units the bytes hold.
 pub fn count(text: &[u8]) -> usize
