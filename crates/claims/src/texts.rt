@@ -4,14 +4,15 @@ ghost use Rattle.std.specs.Option.{option_map};
 ghost use Rattle.claims.specs.Texts.{source_of, start_of, part_of};
 
 // The two texts that a claim's text may lie in.
-#[derive(Clone, Copy, PartialEq, Eq, Debug)]
+#[derive(Clone, Copy, PartialEq, Eq, Debug, Default)]
 pub enum Origin {
+    #[default]
     Rules,
     Packet,
 }
 
 // Places count from 0, by units in the rule text and by bytes in the packet; the length counts units.
-#[derive(Clone, Copy, PartialEq, Eq, Debug)]
+#[derive(Clone, Copy, PartialEq, Eq, Debug, Default)]
 pub struct Text {
     pub origin: Origin,
     pub place: u16,

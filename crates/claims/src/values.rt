@@ -22,6 +22,12 @@ pub enum Value {
     Boolean(bool),
 }
 
+impl Default for Value {
+    fn default() -> Value {
+        Value::Boolean(false)
+    }
+}
+
 // The value type that a word spells, in any case.
 pub fn value_type(word: &[u8]) -> Option<ValueType>
     ensures { result ≡ named (units word.now) }
