@@ -1,5 +1,3 @@
 pub mod Nths
-mod Granted
-mod Slots
 mod Laid
-mod Fronts
+mod Refusals

@@ -5,7 +5,6 @@
 
 mod lent;
 mod overlays;
-mod own;
 mod rounds;
 mod stores;
 mod tables;

@@ -1,17 +1,18 @@
 // The overlay: the claims of any source, which stay, and up to 128 more behind them.
-ghost use Rattle.std.specs.Prelude.{◌≡◌, ◌+◌, min, length};
+ghost use Rattle.std.specs.Prelude.{◌≡◌, ◌+◌, ◌≤◌, min, length};
 ghost use Rattle.store.specs.Owned.{owned};
 ghost use Rattle.store.specs.Overlays.{laid_over, floor_over, capacity_over};
 
-use super::own::Own;
 use super::stores::Store;
+use arrayvec::ArrayVec;
 use claims::{Claim, Source};
 use faults::{Cause, Fault};
 
 #[derive(Drop)]
 pub struct Overlay<S: Source> {
     base: S,
-    own: Own,
+    own: ArrayVec<Claim, 128>,
+    ghost few: { length (owned own) ≤ 128 },
 }
 
 impl<S: Source> Overlay<S> {
@@ -23,7 +24,7 @@ impl<S: Source> Overlay<S> {
     {
         Overlay {
             base,
-            own: Own::none(),
+            own: ArrayVec::new(),
         }
     }
 }
@@ -40,7 +41,7 @@ impl<S: Source> Source for Overlay<S> {
         if n < below {
             self.base.claim_at(n)
         } else if n < 512 {
-            self.own.get(n - below)
+            self.own.as_slice().get(n - below).copied()
         } else {
             None
         }
@@ -52,6 +53,7 @@ impl<S: Source> Store for Overlay<S> {
 
     ghost cap_of = { λ o. capacity_over (S.Source.list o.base) };
 
+    #[tactic(auto, using(crate::proofs::Laid::laid_bounds))]
     fn floor(&self) -> usize {
         self.base.count()
     }
@@ -67,11 +69,10 @@ impl<S: Source> Store for Overlay<S> {
 
     fn cut(&mut self, n: usize) -> Result<(), Fault> {
         let below = self.base.count();
-        let all = self.count();
-        if n < below || n > all {
+        if n < below || n > self.count() {
             return Err(Fault::at(Cause::CutOutside, 0));
         }
-        self.own.cut(n - below);
+        self.own.truncate(n - below);
         Ok(())
     }
 }
