@@ -4,6 +4,7 @@ use mathlib.Core.Bool.{false≢true}
 use mathlib.Core.List.{nil≢cons, cons≢nil, head-eq_of_cons-eq, tail-eq_of_cons-eq}
 use lib.Bits.{bit_and, bit_or}
 use borrow.Author.Tests.{eqb-false}
+use Rattle.std.proofs.lemmas.Bool.{false_from_ne_true}
 use Rattle.std.proofs.str.Laws.{order}
 use Rattle.std.proofs.lemmas.Nat.{shr-shr}
 use Rattle.std.proofs.lemmas.List.{get_or_append_left, get_or-append_right, get_or-take}
@@ -11,7 +12,7 @@ use Rattle.automaton.specs.declared.Atom.{Atom}
 use Rattle.automaton.specs.declared.Atom.TheVariants.{Plain}
 use Rattle.automaton.specs.Language.{fits, Tree, empty, one, either, followed, star, plus, opt, Many, Then, In, After, Matches}
 use Rattle.automaton.specs.declared.Automaton.{Automaton}
-use Rattle.automaton.specs.Places.{bit, Has, size, null, first, last, links, Linked, atoms_of, Stands}
+use Rattle.automaton.specs.Places.{bit, Has, size, null, first, last, links, Linked, atoms_of, atoms, follows as afters, Stands}
 use Rattle.automaton.specs.Run.{room, masked, reached, stepped, ends as stops, run}
 use Rattle.automaton.proofs.Sets.{bit-bit_and}
 use Rattle.automaton.proofs.Holds.{has_split, has_left, has_right, has_none, has_one, only_one, and_true, has_if, empty_left, null_of, of_null, Lang, Holds, enter, leave, ends, follows, At, goes}
@@ -192,10 +193,6 @@ not-true : (b : Bool) → not b ≡ true → b ≡ false
 not-true true h = absurd (false≢true h)
 not-true false h = refl
 
-no_true : (b : Bool) → (b ≡ true → ⊥) → b ≡ false
-no_true true h = absurd (h refl)
-no_true false h = refl
-
 module _ (m : Automaton) (t : Tree) (st : Stands m m.head m.tail t) where
   abbrev h : Bool
   h = m.head
@@ -218,8 +215,8 @@ module _ (m : Automaton) (t : Tree) (st : Stands m m.head m.tail t) where
   all : room m ≡ size t
   all = ap (λ z. min z 60) st.counts ∙ omega (arith, st.few)
 
-  same_atom : (p : ℕ) → p < size t → get_or m.atoms p (Plain 0) ≡ S p
-  same_atom p lt = sym (get_or-take (size t) m.atoms p (Plain 0) lt) ∙ ap (λ z. get_or z p (Plain 0)) st.takes
+  same_atom : (p : ℕ) → p < size t → get_or (atoms m.places) p (Plain 0) ≡ S p
+  same_atom p lt = sym (get_or-take (size t) (atoms m.places) p (Plain 0) lt) ∙ ap (λ z. get_or z p (Plain 0)) st.takes
 
   abbrev Later : List ℕ → Type 0
   Later w = (y : ℕ) × (a : List ℕ) × (b : List ℕ) × (w ≡ y ∷ (a ++ b)) × Then (In t) k b
@@ -233,28 +230,28 @@ module _ (m : Automaton) (t : Tree) (st : Stands m m.head m.tail t) where
 
   step_of : (fresh : Bool) (s x q : ℕ) → Has (stepped m fresh s x) q → (((fresh ≡ true) × Has (first t 0) q) ⊎ ((p : ℕ) × Has s p × Linked (links t 0) p q)) × (fits (S q) x ≡ true)
   step_of fresh s x q i =
-      let g : ℕ = reached m.follow (cond fresh m.firsts 0) s (room m) in
-      let f : ℕ = masked m.atoms x (room m) in
+      let g : ℕ = reached (afters m.places) (cond fresh m.firsts 0) s (room m) in
+      let f : ℕ = masked (atoms m.places) x (room m) in
       let c = and_true (bit g q) (bit f q) (sym (bit-bit_and g f q) ∙ i) in
-      let a = mask_of m.atoms x (room m) q c.1 in (
-        elim (reach_of m.follow (cond fresh m.firsts 0) s (room m) q c.0) [
+      let a = mask_of (atoms m.places) x (room m) q c.1 in (
+        elim (reach_of (afters m.places) (cond fresh m.firsts 0) s (room m) q c.0) [
           | inl j ↦ inl (begin_of fresh q j)
           | inr j ↦ inr (j.0, j.2, (st.leads j.0 q (omega (arith, all, st.few, j.1))).0 j.3)
         ],
         ap (λ z. fits z x) (sym (same_atom q (omega (arith, all, a.0)))) ∙ a.1,
       )
 
-  step_has : (fresh : Bool) (s x q : ℕ) (w : List ℕ) → Has (reached m.follow (cond fresh m.firsts 0) s (room m)) q → fits (S q) x ≡ true → K q w → Has (stepped m fresh s x) q
+  step_has : (fresh : Bool) (s x q : ℕ) (w : List ℕ) → Has (reached (afters m.places) (cond fresh m.firsts 0) s (room m)) q → fits (S q) x ≡ true → K q w → Has (stepped m fresh s x) q
   step_has fresh s x q w r f kq =
       let b = within t 0 k q w kq in
       let lt : q < size t = omega arith in
-      both _ _ q r (mask_add m.atoms x (room m) q (omega (arith, all)) (ap (λ z. fits z x) (same_atom q lt) ∙ f))
+      both _ _ q r (mask_add (atoms m.places) x (room m) q (omega (arith, all)) (ap (λ z. fits z x) (same_atom q lt) ∙ f))
 
   -- a place of t that may be followed by q
-  link_has : (fresh : Bool) (s p q : ℕ) (w : List ℕ) → K p w → Has s p → Linked (links t 0) p q → Has (reached m.follow (cond fresh m.firsts 0) s (room m)) q
+  link_has : (fresh : Bool) (s p q : ℕ) (w : List ℕ) → K p w → Has s p → Linked (links t 0) p q → Has (reached (afters m.places) (cond fresh m.firsts 0) s (room m)) q
   link_has fresh s p q w kp i l =
       let b = within t 0 k p w kp in
-      reach_add m.follow (cond fresh m.firsts 0) s (room m) p q (omega (arith, all)) i ((st.leads p q (omega (arith, st.few))).1 l)
+      reach_add (afters m.places) (cond fresh m.firsts 0) s (room m) p q (omega (arith, all)) i ((st.leads p q (omega (arith, st.few))).1 l)
 
   hit_of : (fresh : Bool) (s : ℕ) → stops m fresh s ≡ true → (w : List ℕ) → k w → Lives fresh s w
   hit_of fresh s i w kw =
@@ -291,7 +288,7 @@ module _ (m : Automaton) (t : Tree) (st : Stands m m.head m.tail t) where
 
   stop : (x : ℕ) (w : List ℕ) (fresh : Bool) (s : ℕ) → k (x ∷ w) → stops m fresh s ≡ true → run m fresh s (x ∷ w) ≡ true
   stop x w fresh s kw i =
-      let open_end : e ≡ false = no_true e (λ et. cons≢nil (kw et)) in
+      let open_end : e ≡ false = false_from_ne_true e (λ et. cons≢nil (kw et)) in
       ap (λ b. cond b true (run m (not h) (stepped m fresh s x) w)) (ap (λ z. not z && stops m fresh s) open_end ∙ i)
 
   abbrev Next : ℕ → List ℕ → Bool → ℕ → Type 0
@@ -302,7 +299,7 @@ module _ (m : Automaton) (t : Tree) (st : Stands m m.head m.tail t) where
   begins x w fresh s next f (y ∷ u) v q i kv =
       let d = enter S K t 0 k right x u v (subst (λ z. In t (z ∷ u)) (sym (head-eq_of_cons-eq q)) i) kv in
       let kq = subst (K d.0) (sym (tail-eq_of_cons-eq q)) d.3 in
-      let r = reach_keep m.follow (cond fresh m.firsts 0) s (room m) d.0 (subst (λ b. Has (cond b m.firsts 0) d.0) (sym f) (subst (λ z. Has z d.0) (sym st.begins) d.1)) in
+      let r = reach_keep (afters m.places) (cond fresh m.firsts 0) s (room m) d.0 (subst (λ b. Has (cond b m.firsts 0) d.0) (sym f) (subst (λ z. Has z d.0) (sym st.begins) d.1)) in
       next (inr (inl (d.0, step_has fresh s x d.0 w r d.2 kq, kq)))
 
   later : (x : ℕ) (w : List ℕ) (fresh : Bool) (s : ℕ) → Next x w fresh s → h ≡ false → (a b : List ℕ) → w ≡ a ++ b → Then (In t) k b → run m fresh s (x ∷ w) ≡ true
@@ -337,7 +334,7 @@ module _ (m : Automaton) (t : Tree) (st : Stands m m.head m.tail t) where
 
   whole : (w a b : List ℕ) → w ≡ a ++ b → (h ≡ true → a ≡ []) → Then (In t) k b → Lives true 0 w
   whole w [] b q f i = inl (refl, subst (Then (In t) k) (sym q) i)
-  whole w (y ∷ a) b q f i = inr (inr (no_true h (λ ht. cons≢nil (f ht)), (y, a, b, q, i)))
+  whole w (y ∷ a) b q f i = inr (inr (false_from_ne_true h (λ ht. cons≢nil (f ht)), (y, a, b, q, i)))
 
   matches→ : (w : List ℕ) → run m true 0 w ≡ true → Matches h e t w
   matches→ w r =

@@ -1,5 +1,5 @@
 pub mod Sets
 pub mod Holds
 pub mod Correct
-pub mod Turns
+pub mod Used
 pub mod Made

@@ -1,11 +1,11 @@
 -- The automaton that is computed from a tree stands for it.
-use Rattle.std.proofs.Common.{◌≡◌, ℕ, zero, suc, ◌+◌, ◌<◌, ◌≤◌, Bool, true, false, cond, List, [], ◌∷◌, get_or, Decides, sym, refl, ap, ◌∙◌, subst, inl, inr, add-zero, zero-add, arith}
+use Rattle.std.proofs.Common.{◌≡◌, ℕ, zero, suc, ◌+◌, ◌<◌, ◌≤◌, Bool, true, false, cond, List, [], ◌∷◌, length, take, get_or, Decides, sym, refl, ap, ◌∙◌, subst, inl, inr, add-zero, zero-add, arith}
 use lib.Bits.{bit_or}
-use Rattle.std.proofs.lemmas.List.{take_all}
+use Rattle.automaton.specs.declared.Atom.{Atom}
 use Rattle.automaton.specs.Language.{Tree, Matches}
-use Rattle.automaton.specs.Places.{bit, Has, size, atoms_of, Link, links, Linked, Stands}
+use Rattle.automaton.specs.Places.{bit, Has, size, atoms_of, Link, links, Linked, atoms, follows, Stands}
 use Rattle.automaton.specs.Run.{run}
-use Rattle.automaton.specs.Made.{next, table, made}
+use Rattle.automaton.specs.Made.{next, table, placed, made}
 use Rattle.automaton.proofs.Holds.{has_none, has_split, has_left, has_right}
 use Rattle.automaton.proofs.Correct.{length-atoms_of, decided}
 
@@ -31,6 +31,20 @@ of_linked [] p q h = absurd h
 of_linked (l ∷ ls) p q (inl h) = subst (λ b. Has (cond b (bit_or l.1 (next ls p)) (next ls p)) q) (sym h.0) (has_left l.1 (next ls p) q h.1)
 of_linked (l ∷ ls) p q (inr h) = keep_next (bit l.0 p) l.1 (next ls p) q (of_linked ls p q h)
 
+length-table : (ls : List Link) (p n : ℕ) → length (table ls p n) ≡ n
+length-table ls p zero = refl
+length-table ls p (suc n) = ap suc (length-table ls (p + 1) n)
+
+follows_placed : (xs : List Atom) (fs : List ℕ) → follows (placed xs fs) ≡ fs
+follows_placed xs [] = refl
+follows_placed [] (f ∷ fs) = ap (λ z. f ∷ z) (follows_placed [] fs)
+follows_placed (x ∷ xs) (f ∷ fs) = ap (λ z. f ∷ z) (follows_placed xs fs)
+
+atoms_placed : (xs : List Atom) (fs : List ℕ) → length xs ≤ length fs → take (length xs) (atoms (placed xs fs)) ≡ xs
+atoms_placed [] fs le = refl
+atoms_placed (x ∷ xs) [] le = absurd (omega arith)
+atoms_placed (x ∷ xs) (f ∷ fs) le = ap (λ z. x ∷ z) (atoms_placed xs fs (omega arith))
+
 stands_made : (head tail : Bool) (t : Tree) → size t ≤ 60 → Stands (made head tail t) head tail t
 stands_made head tail t few = record {
   heads = refl;
@@ -40,9 +54,13 @@ stands_made head tail t few = record {
   ends = refl;
   counts = refl;
   few = few;
-  takes = take_all (size t) (atoms_of t) (omega (arith, length-atoms_of t));
+  takes =
+      ap (λ n. take n (atoms (placed (atoms_of t) (table (links t 0) 0 60)))) (sym (length-atoms_of t))
+      ∙ atoms_placed (atoms_of t) (table (links t 0) 0 60) (omega (arith, length-atoms_of t, length-table (links t 0) 0 60));
   leads = λ p q lt.
-      let e = at_table (links t 0) 0 60 p lt ∙ ap (next (links t 0)) (zero-add p) in
+      let e =
+      ap (λ z. get_or z p 0) (follows_placed (atoms_of t) (table (links t 0) 0 60))
+      ∙ at_table (links t 0) 0 60 p lt ∙ ap (next (links t 0)) (zero-add p) in
       (λ h. linked_of (links t 0) p q (subst (λ z. Has z q) e h), λ h. subst (λ z. Has z q) (sym e) (of_linked (links t 0) p q h));
 }
 

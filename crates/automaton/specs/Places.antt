@@ -1,7 +1,8 @@
 -- The places of a tree's atoms, numbered from left to right: where a run begins and ends, and what may follow what.
-use Rattle.std.specs.Prelude.{◌≡◌, ℕ, ◌+◌, ◌/◌, ◌%◌, ◌^◌, ◌<◌, ◌≤◌, Bool, true, false, cond, ◌&&◌, ◌||◌, ◌⊎◌, List, [], ◌∷◌, ◌++◌, take, ◌==◌, bit_or, slice_index}
+use Rattle.std.specs.Prelude.{◌≡◌, ℕ, ◌+◌, ◌/◌, ◌%◌, ◌^◌, ◌<◌, ◌≤◌, Bool, true, false, if◌then◌else◌, ◌&&◌, ◌||◌, ◌⊎◌, List, [], ◌∷◌, ◌++◌, map, take, ◌==◌, bit_or, slice_index}
 use Rattle.automaton.specs.declared.Atom.{Atom}
 use Rattle.automaton.specs.declared.Automaton.{Automaton}
+use Rattle.automaton.specs.declared.Place.{Place}
 use Rattle.automaton.specs.Language.{Tree, empty, one, either, followed, star, plus, opt}
 
 -- a set of places is a number: is the place p in it?
@@ -45,7 +46,7 @@ abbrev pub first : Tree → ℕ → ℕ
 first empty n = 0
 first (one a) n = 2 ^ n
 first (either s t) n = bit_or (first s n) (first t (n + size s))
-first (followed s t) n = bit_or (first s n) (cond (null s) (first t (n + size s)) 0)
+first (followed s t) n = bit_or (first s n) (if null s then first t (n + size s) else 0)
 first (star t) n = first t n
 first (plus t) n = first t n
 first (opt t) n = first t n
@@ -55,7 +56,7 @@ abbrev pub last : Tree → ℕ → ℕ
 last empty n = 0
 last (one a) n = 2 ^ n
 last (either s t) n = bit_or (last s n) (last t (n + size s))
-last (followed s t) n = bit_or (last t (n + size s)) (cond (null t) (last s n) 0)
+last (followed s t) n = bit_or (last t (n + size s)) (if null t then last s n else 0)
 last (star t) n = last t n
 last (plus t) n = last t n
 last (opt t) n = last t n
@@ -78,6 +79,13 @@ abbrev pub Linked : List Link → ℕ → ℕ → Type 0
 Linked [] p q = ⊥
 Linked (l ∷ ls) p q = (Has l.0 p × Has l.1 q) ⊎ Linked ls p q
 
+-- what each place takes, and for each which may come next
+abbrev pub atoms : List Place → List Atom
+atoms ps = map (λ p. p.atom) ps
+
+abbrev pub follows : List Place → List ℕ
+follows ps = map (λ p. p.follow) ps
+
 -- the automaton is that of the tree t with these anchors
 pub record Stands (a : Automaton) (head tail : Bool) (t : Tree) : Type 0 where
   pub heads : a.head ≡ head
@@ -85,7 +93,7 @@ pub record Stands (a : Automaton) (head tail : Bool) (t : Tree) : Type 0 where
   pub nulls : a.nullable ≡ null t
   pub begins : a.firsts ≡ first t 0
   pub ends : a.lasts ≡ last t 0
-  pub counts : a.places ≡ size t
+  pub counts : a.count ≡ size t
   pub few : size t ≤ 60
-  pub takes : take (size t) a.atoms ≡ atoms_of t
-  pub leads : (p q : ℕ) → p < 60 → (Has (slice_index a.follow p) q → Linked (links t 0) p q) × (Linked (links t 0) p q → Has (slice_index a.follow p) q)
+  pub takes : take (size t) (atoms a.places) ≡ atoms_of t
+  pub leads : (p q : ℕ) → p < 60 → (Has (slice_index (follows a.places) p) q → Linked (links t 0) p q) × (Linked (links t 0) p q → Has (slice_index (follows a.places) p) q)

@@ -3,13 +3,13 @@
 // An automaton stands for a tree with its anchors; what matching means is defined on the tree alone.
 #![tactic(auto)]
 
-ghost use Rattle.std.specs.Prelude.{◌≡◌, Bool, if◌then◌else◌, Decides};
+ghost use Rattle.std.specs.Prelude.{◌≡◌, Bool, not, take, Decides};
 ghost use Rattle.units.specs.Units.{units};
 ghost use Rattle.automaton.specs.Language.{fits, Tree, Matches};
-ghost use Rattle.automaton.specs.Places.{bit, Stands};
+ghost use Rattle.automaton.specs.Places.{bit, atoms, follows, Stands};
 ghost use Rattle.automaton.specs.Run.{room, masked, reached, ends, stepped};
 
-use units::{count, fold, unit};
+use units::{Units, fold};
 
 // What takes one unit: a unit that folds alike, or any.
 #[derive(Clone, Copy, PartialEq, Eq, Debug)]
@@ -18,7 +18,15 @@ pub enum Atom {
     Any,
 }
 
-// The places are numbered from 0; `follow` has for each the set of those that may come next.
+// A place: what stands there, and the set of the places that may come next.
+#[derive(Clone, Copy)]
+pub struct Place {
+    pub atom: Atom,
+    pub follow: u64,
+}
+
+// The places are numbered from 0; the first `count` are in use. Beside the count they stand in an array, not in an
+// ArrayVec, which is no plain value: a pattern can be copied, and is handed on as a copy.
 #[derive(Clone, Copy)]
 pub struct Automaton {
     pub head: bool,
@@ -26,18 +34,26 @@ pub struct Automaton {
     pub nullable: bool,
     pub firsts: u64,
     pub lasts: u64,
-    pub places: usize,
-    pub atoms: [Atom; 60],
-    pub follow: [u64; 60],
+    pub count: usize,
+    pub places: [Place; 60],
 }
 
-// Does the atom take the unit?
-fn takes(a: Atom, u: u16) -> bool
-    ensures { result ≡ fits a u }
-{
-    match a {
-        Atom::Plain(c) => fold(c) == fold(u),
-        Atom::Any => true,
+// How far the runs have come: the places that one may have reached, and whether one may begin here.
+#[derive(Clone, Copy)]
+struct Reached {
+    set: u64,
+    fresh: bool,
+}
+
+impl Atom {
+    // Does the atom take the unit?
+    fn takes(self, u: u16) -> bool
+        ensures { result ≡ fits self u }
+    {
+        match self {
+            Atom::Plain(c) => fold(c) == fold(u),
+            Atom::Any => true,
+        }
     }
 }
 
@@ -48,61 +64,57 @@ pub fn has(set: u64, p: usize) -> bool
     p < 64 && (set >> p) % 2 == 1
 }
 
-// The places in use, never more than there is room for.
-fn places(a: &Automaton) -> usize
-    ensures { result ≡ room a.now }
-{
-    if a.places < 60 { a.places } else { 60 }
-}
+impl Automaton {
+    // The places in use, never more than there is room for.
+    fn used(&self) -> &[Place]
+        ensures { result.now ≡ take (room self.now) self.now.places }
+    {
+        &self.places[..self.count.min(60)]
+    }
 
-// The places whose atom takes u.
-fn mask(a: &Automaton, u: u16) -> u64
-    ensures { result ≡ masked a.now.atoms u (room a.now) }
-{
-    let mut set = 0;
-    for i in 0..places(a) {
-        if takes(a.atoms[i], u) {
-            set |= 1u64 << i;
+    // The places whose atom takes u.
+    fn mask(&self, u: u16) -> u64
+        ensures { result ≡ masked (atoms self.now.places) u (room self.now) }
+    {
+        let mut set = 0;
+        for (i, place) in self.used().iter().enumerate() {
+            if place.atom.takes(u) {
+                set |= 1u64 << i;
+            }
+        }
+        set
+    }
+
+    // The set `begun`, and what may follow a place of s.
+    fn reach(&self, begun: u64, s: u64) -> u64
+        ensures { result ≡ reached (follows self.now.places) begun s (room self.now) }
+    {
+        let mut set = begun;
+        for (i, place) in self.used().iter().enumerate() {
+            if has(s, i) {
+                set |= place.follow;
+            }
+        }
+        set
+    }
+
+    // One unit on.
+    fn step(&self, r: Reached, u: u16) -> Reached
+        ensures set { result.set ≡ stepped self.now r.fresh r.set u }
+        ensures fresh { result.fresh ≡ not self.now.head }
+    {
+        let begun = if r.fresh { self.firsts } else { 0 };
+        Reached {
+            set: self.reach(begun, r.set) & self.mask(u),
+            fresh: !self.head,
         }
     }
-    set
-}
 
-// The set `begun`, and what may follow a place of s.
-fn reach(a: &Automaton, begun: u64, s: u64) -> u64
-    ensures { result ≡ reached a.now.follow begun s (room a.now) }
-{
-    let mut set = begun;
-    for i in 0..places(a) {
-        if has(s, i) {
-            set |= a.follow[i];
-        }
-    }
-    set
-}
-
-// The set, under a test.
-fn when(test: bool, set: u64) -> u64
-    ensures { result ≡ (if test then set else 0) }
-{
-    if test { set } else { 0 }
-}
-
-// One unit on; where `fresh`, a run may begin with it.
-fn step(a: &Automaton, fresh: bool, s: u64, u: u16) -> u64
-    ensures { result ≡ stepped a.now fresh s u }
-{
-    reach(a, when(fresh, a.firsts), s) & mask(a, u)
-}
-
-// Does a run end here?
-fn ended(a: &Automaton, fresh: bool, s: u64) -> bool
-    ensures { result ≡ ends a.now fresh s }
-{
-    if fresh && a.nullable {
-        true
-    } else {
-        a.lasts & s != 0
+    // Does a run end here?
+    fn ended(&self, r: Reached) -> bool
+        ensures { result ≡ ends self.now r.fresh r.set }
+    {
+        r.fresh && self.nullable || self.lasts & r.set != 0
     }
 }
 
@@ -110,14 +122,15 @@ fn ended(a: &Automaton, fresh: bool, s: u64) -> bool
 pub fn matches(a: &Automaton, text: &[u8]) -> bool
     ensures { (head tail : Bool) (t : Tree) → Stands a.now head tail t → Decides result (Matches head tail t (units text.now)) }
 {
-    let mut set = 0;
-    let mut fresh = true;
-    for i in 0..count(text) {
-        if !a.tail && ended(a, fresh, set) {
+    let mut r = Reached {
+        set: 0,
+        fresh: true,
+    };
+    for u in Units::of(text) {
+        if !a.tail && a.ended(r) {
             return true;
         }
-        set = step(a, fresh, set, unit(text, i));
-        fresh = !a.head;
+        r = a.step(r, u);
     }
-    ended(a, fresh, set)
+    a.ended(r)
 }

@@ -2,7 +2,7 @@
 use words::Terminal;
 
 // A word of the text: the place of its first unit, and where the units of a name or of what is quoted lie.
-#[derive(Clone, Copy)]
+#[derive(Clone, Copy, PartialEq, Eq, Debug, Default)]
 pub struct Piece {
     pub terminal: Terminal,
     pub at: u16,

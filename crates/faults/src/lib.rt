@@ -3,52 +3,55 @@
 // Every refusal of the product is one of these values, and rises unchanged.
 #![tactic(auto)]
 
-ghost use Rattle.std.specs.Prelude.{◌/◌, ◌≡◌};
+ghost use Rattle.std.specs.Prelude.{◌/◌, ◌≡◌, Some};
 ghost use Rattle.faults.specs.Numbers.{number_of, layer_of, digit_of};
 ghost use Rattle.faults.specs.At.{fault_at};
+ghost use Rattle.faults.specs.Words.{words_of, told};
+
+use std::fmt;
 
 #[derive(Clone, Copy, PartialEq, Eq, Debug)]
 pub enum Cause {
-    TextTooLong,
-    OddByteCount,
-    IllFormedRuleText,
-    UnknownCharacter,
-    StringNotClosed,
-    WordTooLong,
-    UnexpectedWord,
-    OverLimit,
-    RepeatedIdentifier,
-    UnknownIdentifier,
-    MalformedPattern,
-    PatternOverLimit,
-    PartsTooShort,
-    NotAPacket,
-    LengthMismatch,
-    TooManyClaims,
-    ClaimPastEnd,
-    UnknownValueType,
-    BooleanOverOne,
-    IllFormedText,
-    UncarriableClaim,
-    LiteralDoesNotConvert,
-    TypeMismatch,
-    BufferTooShort,
-    PacketTooLarge,
-    StoreFull,
-    CutOutside,
+    TextTooLong = 11,
+    OddByteCount = 12,
+    IllFormedRuleText = 13,
+    UnknownCharacter = 21,
+    StringNotClosed = 22,
+    WordTooLong = 23,
+    UnexpectedWord = 31,
+    OverLimit = 41,
+    RepeatedIdentifier = 42,
+    UnknownIdentifier = 43,
+    MalformedPattern = 44,
+    PatternOverLimit = 45,
+    PartsTooShort = 46,
+    NotAPacket = 51,
+    LengthMismatch = 52,
+    TooManyClaims = 53,
+    ClaimPastEnd = 54,
+    UnknownValueType = 55,
+    BooleanOverOne = 56,
+    IllFormedText = 57,
+    UncarriableClaim = 64,
+    LiteralDoesNotConvert = 71,
+    TypeMismatch = 72,
+    BufferTooShort = 81,
+    PacketTooLarge = 82,
+    StoreFull = 91,
+    CutOutside = 92,
 }
 
 #[derive(Clone, Copy, PartialEq, Eq, Debug)]
 pub enum Layer {
-    Text,
-    Words,
-    Grammar,
-    Checks,
-    Packet,
-    Session,
-    Forming,
-    Output,
-    Store,
+    Text = 1,
+    Words = 2,
+    Grammar = 3,
+    Checks = 4,
+    Packet = 5,
+    Session = 6,
+    Forming = 7,
+    Output = 8,
+    Store = 9,
 }
 
 // Rules, and the matching tuples of a rule, count from 1; both are 0 outside a step.
@@ -64,35 +67,7 @@ impl Cause {
     pub fn number(self) -> u8
         ensures { result ≡ number_of self }
     {
-        match self {
-            Cause::TextTooLong => 11,
-            Cause::OddByteCount => 12,
-            Cause::IllFormedRuleText => 13,
-            Cause::UnknownCharacter => 21,
-            Cause::StringNotClosed => 22,
-            Cause::WordTooLong => 23,
-            Cause::UnexpectedWord => 31,
-            Cause::OverLimit => 41,
-            Cause::RepeatedIdentifier => 42,
-            Cause::UnknownIdentifier => 43,
-            Cause::MalformedPattern => 44,
-            Cause::PatternOverLimit => 45,
-            Cause::PartsTooShort => 46,
-            Cause::NotAPacket => 51,
-            Cause::LengthMismatch => 52,
-            Cause::TooManyClaims => 53,
-            Cause::ClaimPastEnd => 54,
-            Cause::UnknownValueType => 55,
-            Cause::BooleanOverOne => 56,
-            Cause::IllFormedText => 57,
-            Cause::UncarriableClaim => 64,
-            Cause::LiteralDoesNotConvert => 71,
-            Cause::TypeMismatch => 72,
-            Cause::BufferTooShort => 81,
-            Cause::PacketTooLarge => 82,
-            Cause::StoreFull => 91,
-            Cause::CutOutside => 92,
-        }
+        self as u8
     }
 
     pub fn layer(self) -> Layer
@@ -100,34 +75,69 @@ impl Cause {
         ensures tens { digit_of result ≡ number_of self / 10 }
     {
         match self {
-            Cause::TextTooLong => Layer::Text,
-            Cause::OddByteCount => Layer::Text,
-            Cause::IllFormedRuleText => Layer::Text,
-            Cause::UnknownCharacter => Layer::Words,
-            Cause::StringNotClosed => Layer::Words,
-            Cause::WordTooLong => Layer::Words,
+            Cause::TextTooLong | Cause::OddByteCount | Cause::IllFormedRuleText => Layer::Text,
+            Cause::UnknownCharacter | Cause::StringNotClosed | Cause::WordTooLong => Layer::Words,
             Cause::UnexpectedWord => Layer::Grammar,
-            Cause::OverLimit => Layer::Checks,
-            Cause::RepeatedIdentifier => Layer::Checks,
-            Cause::UnknownIdentifier => Layer::Checks,
-            Cause::MalformedPattern => Layer::Checks,
-            Cause::PatternOverLimit => Layer::Checks,
-            Cause::PartsTooShort => Layer::Checks,
-            Cause::NotAPacket => Layer::Packet,
-            Cause::LengthMismatch => Layer::Packet,
-            Cause::TooManyClaims => Layer::Packet,
-            Cause::ClaimPastEnd => Layer::Packet,
-            Cause::UnknownValueType => Layer::Packet,
-            Cause::BooleanOverOne => Layer::Packet,
-            Cause::IllFormedText => Layer::Packet,
+            Cause::OverLimit
+            | Cause::RepeatedIdentifier
+            | Cause::UnknownIdentifier
+            | Cause::MalformedPattern
+            | Cause::PatternOverLimit
+            | Cause::PartsTooShort => Layer::Checks,
+            Cause::NotAPacket
+            | Cause::LengthMismatch
+            | Cause::TooManyClaims
+            | Cause::ClaimPastEnd
+            | Cause::UnknownValueType
+            | Cause::BooleanOverOne
+            | Cause::IllFormedText => Layer::Packet,
             Cause::UncarriableClaim => Layer::Session,
-            Cause::LiteralDoesNotConvert => Layer::Forming,
-            Cause::TypeMismatch => Layer::Forming,
-            Cause::BufferTooShort => Layer::Output,
-            Cause::PacketTooLarge => Layer::Output,
-            Cause::StoreFull => Layer::Store,
-            Cause::CutOutside => Layer::Store,
+            Cause::LiteralDoesNotConvert | Cause::TypeMismatch => Layer::Forming,
+            Cause::BufferTooShort | Cause::PacketTooLarge => Layer::Output,
+            Cause::StoreFull | Cause::CutOutside => Layer::Store,
         }
+    }
+
+    pub fn words(self) -> &'static str
+        ensures { result.now ≡ words_of self }
+    {
+        match self {
+            Cause::TextTooLong => "the rule text has over 32768 bytes",
+            Cause::OddByteCount => "the rule text has an odd number of bytes",
+            Cause::IllFormedRuleText => "a unit 0000 or half of a surrogate pair in the rule text",
+            Cause::UnknownCharacter => "no word begins with this character",
+            Cause::StringNotClosed => "the string is not closed on its line",
+            Cause::WordTooLong => "an identifier over 31 units or a string over 255",
+            Cause::UnexpectedWord => "the grammar has no use for this word",
+            Cause::OverLimit => "a rule, selection or condition past its limit",
+            Cause::RepeatedIdentifier => "an earlier selection of the rule has this identifier",
+            Cause::UnknownIdentifier => "no selection of the rule has this identifier",
+            Cause::MalformedPattern => "the pattern is malformed",
+            Cause::PatternOverLimit => "the pattern nests over 8 deep or has over 60 atoms",
+            Cause::PartsTooShort => "the buffer for the parts is too short",
+            Cause::NotAPacket => "not a packet of version 1",
+            Cause::LengthMismatch => "the length is not that of the bytes present",
+            Cause::TooManyClaims => "more than 256 claims",
+            Cause::ClaimPastEnd => "a claim runs past the end",
+            Cause::UnknownValueType => "an unknown value type",
+            Cause::BooleanOverOne => "a boolean that is neither 0 nor 1",
+            Cause::IllFormedText => "a text with a unit 0000 or half of a surrogate pair",
+            Cause::UncarriableClaim => "a claim that a packet cannot carry",
+            Cause::LiteralDoesNotConvert => "the literal does not convert to the value type",
+            Cause::TypeMismatch => "a value of another kind than the new claim asks for",
+            Cause::BufferTooShort => "the buffer is too short",
+            Cause::PacketTooLarge => "more than a packet carries",
+            Cause::StoreFull => "the store is full",
+            Cause::CutOutside => "a cut outside floor and length",
+        }
+    }
+}
+
+impl fmt::Display for Cause {
+    ghost output = { λ c. Some (words_of c) };
+
+    fn fmt<W: fmt::Write>(&self, f: &mut fmt::Formatter<W>) -> fmt::Result {
+        f.pad(self.words())
     }
 }
 
@@ -135,17 +145,7 @@ impl Layer {
     pub fn digit(self) -> u8
         ensures { result ≡ digit_of self }
     {
-        match self {
-            Layer::Text => 1,
-            Layer::Words => 2,
-            Layer::Grammar => 3,
-            Layer::Checks => 4,
-            Layer::Packet => 5,
-            Layer::Session => 6,
-            Layer::Forming => 7,
-            Layer::Output => 8,
-            Layer::Store => 9,
-        }
+        self as u8
     }
 }
 
@@ -160,5 +160,20 @@ impl Fault {
             rule: 0,
             tuple: 0,
         }
+    }
+}
+
+// The number, the place and the cause in words.
+impl fmt::Display for Fault {
+    ghost output = { λ f. Some (told f) };
+
+    fn fmt<W: fmt::Write>(&self, f: &mut fmt::Formatter<W>) -> fmt::Result {
+        write!(
+            f,
+            "{} at {}: {}",
+            self.cause.number(),
+            self.place,
+            self.cause
+        )
     }
 }

@@ -1,7 +1,7 @@
 -- The first unit at fault, found in one pass.
-use Rattle.std.proofs.Common.{◌≡◌, ℕ, zero, suc, ◌+◌, ◌<◌, ◌≤◌, Bool, true, false, cond, List, [], ◌∷◌, length, get_or, drop, Some, None, Option, sym, refl, ap, ◌∙◌, subst, add-zero, zero-add, add-one, arith}
+use Rattle.std.proofs.Common.{◌≡◌, ℕ, zero, suc, ◌+◌, ◌<◌, Bool, true, false, cond, List, [], ◌∷◌, length, get_or, drop, Some, None, Option, sym, refl, ap, ◌∙◌, subst, add-zero, zero-add, add-one, arith}
 use Rattle.std.proofs.lemmas.Bool.{cond-true, cond-false}
-use Rattle.std.proofs.lemmas.List.{drop_more, drop_all, get_or-drop}
+use Rattle.std.proofs.lemmas.List.{drop-drop, get_or-drop}
 use Rattle.units.specs.Form.{ill, first_ill, FirstIll}
 
 -- what a pass that starts behind `before` finds
@@ -43,22 +43,18 @@ whole us (Some i) h =
 pub first_ill_found : (us : List ℕ) (o : Option ℕ) → o ≡ first_ill 0 0 us → FirstIll us o
 first_ill_found us o e = rw e (whole us (first_ill 0 0 us) (first_from us 0 0))
 
--- one turn
-module _ (us : List ℕ) (i before u after : ℕ) (h : i < length us) (iu : u ≡ get_or us i 0) (ia : after ≡ get_or us (i + 1) 0) where
-  turn : first_ill before i (drop i us) ≡ cond (ill before u after) (Some i) (first_ill u (i + 1) (drop (i + 1) us))
+-- one turn: what is left from n on begins with u, and `after` is the unit behind it
+module _ (us xs ys : List ℕ) (n before u after : ℕ) (e : xs ≡ u ∷ ys) (d : xs ≡ drop n us) (ia : after ≡ get_or us (n + 1) 0) where
+  pub left_is : ys ≡ drop (n + 1) us
+  left_is = ap (drop 1) (sym e ∙ d) ∙ drop-drop 1 n us
+
+  turn : first_ill before n xs ≡ cond (ill before u after) (Some n) (first_ill u (n + 1) ys)
   turn =
-      let n : get_or (drop (i + 1) us) 0 0 ≡ get_or us (i + 1) 0 = get_or-drop (i + 1) us 0 0 ∙ ap (λ k. get_or us k 0) (add-zero (i + 1)) in
-      let next : get_or (drop (i + 1) us) 0 0 ≡ after = n ∙ sym ia in
-      ap (first_ill before i) (drop_more us i 0 h)
-      ∙ ap (λ k. cond (ill before (get_or us i 0) (get_or (drop (i + 1) us) 0 0)) (Some i) (first_ill (get_or us i 0) k (drop (i + 1) us))) (sym (add-one i))
-      ∙ ap (λ v. cond (ill before v (get_or (drop (i + 1) us) 0 0)) (Some i) (first_ill v (i + 1) (drop (i + 1) us))) (sym iu)
-      ∙ ap (λ v. cond (ill before u v) (Some i) (first_ill u (i + 1) (drop (i + 1) us))) next
+      let next : get_or ys 0 0 ≡ after = ap (λ zs. get_or zs 0 0) left_is ∙ get_or-drop (n + 1) us 0 0 ∙ ap (λ k. get_or us k 0) (add-zero (n + 1)) ∙ sym ia in
+      ap (first_ill before n) e ∙ ap (λ v. cond (ill before u v) (Some n) (first_ill u (suc n) ys)) next ∙ ap (λ k. cond (ill before u after) (Some n) (first_ill u k ys)) (sym (add-one n))
 
-  pub ill_stops : ill before u after ≡ true → first_ill before i (drop i us) ≡ Some i
-  ill_stops e = turn ∙ cond-true _ _ _ e
+  pub ill_stops : ill before u after ≡ true → first_ill before n xs ≡ Some n
+  ill_stops y = turn ∙ cond-true _ _ _ y
 
-  pub ill_goes : ill before u after ≡ false → first_ill u (i + 1) (drop (i + 1) us) ≡ first_ill before i (drop i us)
-  ill_goes e = sym (turn ∙ cond-false _ _ _ e)
-
-pub ill_ends : (us : List ℕ) (before i : ℕ) → length us ≤ i → first_ill before i (drop i us) ≡ None
-ill_ends us before i h = ap (first_ill before i) (drop_all i us h)
+  pub ill_goes : ill before u after ≡ false → first_ill u (n + 1) ys ≡ first_ill before n xs
+  ill_goes y = sym (turn ∙ cond-false _ _ _ y)

@@ -3,10 +3,10 @@
 // Every function answers by that list alone.
 #![tactic(auto)]
 
-ghost use Rattle.std.specs.Prelude.{◌≡◌, ◌<◌, length, take, drop, slice_index};
+ghost use Rattle.std.specs.Prelude.{◌≡◌, ◌<◌, IsTrue, length, take, drop, slice_index};
 ghost use Rattle.std.specs.List.{slice_get};
 ghost use Rattle.std.specs.Iterator.{YieldsFirst, item_count};
-ghost use Rattle.units.specs.Fold.{fold_unit, Same};
+ghost use Rattle.units.specs.Fold.{fold_unit, FoldAlike, FoldAlikeAt, Same};
 ghost use Rattle.units.specs.Form.{ill, first_ill, well_formed, FirstIll};
 ghost use Rattle.units.specs.Units.{units};
 
@@ -53,25 +53,21 @@ pub fn unit(text: &[u8], i: usize) -> u16
     requires { i < length (units text.now) }
     ensures { result ≡ slice_index (units text.now) i }
 {
-    u16::from(text[2 * i]) * 256 + u16::from(text[2 * i + 1])
+    u16::from_be_bytes([text[2 * i], text[2 * i + 1]])
 }
 
 // The unit of a number from 0, or none past the end.
 pub fn unit_at(text: &[u8], i: usize) -> Option<u16>
     ensures { result ≡ slice_get (units text.now) i }
 {
-    if i < count(text) {
-        Some(unit(text, i))
-    } else {
-        None
-    }
+    (i < count(text)).then(|| unit(text, i))
 }
 
 // The unit of a number, or 0000 past the end.
 pub fn unit_or_zero(text: &[u8], i: usize) -> u16
     ensures { result ≡ slice_index (units text.now) i }
 {
-    if i < count(text) { unit(text, i) } else { 0 }
+    unit_at(text, i).unwrap_or(0)
 }
 
 // Up to so many units from a place on: fewer where the text ends before.
@@ -102,14 +98,11 @@ pub fn first_ill_formed(text: &[u8]) -> Option<usize>
     ensures first { FirstIll (units text.now) result }
 {
     let mut before = 0;
-    let mut u = unit_or_zero(text, 0);
-    for i in 0..count(text) {
-        let after = unit_or_zero(text, i + 1);
-        if is_ill(before, u, after) {
+    for (i, u) in Units::of(text).enumerate() {
+        if is_ill(before, u, unit_or_zero(text, i + 1)) {
             return Some(i);
         }
         before = u;
-        u = after;
     }
     None
 }
@@ -132,30 +125,30 @@ pub fn fold(u: u16) -> u16
 pub fn same(a: &[u8], b: &[u8]) -> bool
     ensures { Same (units a.now) (units b.now) result }
 {
-    let n = count(a);
-    if n != count(b) {
-        return false;
-    }
-    for i in 0..n {
-        if fold(unit(a, i)) != fold(unit(b, i)) {
-            return false;
-        }
-    }
-    true
+    folds_alike(a, b)
+}
+
+// These two say what their chains prove: each place of its own. That the lists are then alike is proved above them.
+fn folds_alike(a: &[u8], b: &[u8]) -> bool
+    ensures alike { IsTrue result → FoldAlike (units a.now) (units b.now) }
+    ensures unlike { length (units a.now) ≡ length (units b.now) → FoldAlikeAt (units a.now) (units b.now) → IsTrue result }
+{
+    Units::of(a).map(fold).eq(Units::of(b).map(fold))
 }
 
 // Does the text spell the name, one byte to a unit, in any case?
 pub fn spells(text: &[u8], name: &[u8]) -> bool
     ensures { Same (units text.now) name.now result }
 {
-    let n = count(text);
-    if n != name.len() {
-        return false;
-    }
-    for i in 0..n {
-        if fold(unit(text, i)) != fold(u16::from(name[i])) {
-            return false;
-        }
-    }
-    true
+    folds_to(text, name)
+}
+
+fn folds_to(text: &[u8], name: &[u8]) -> bool
+    ensures alike { IsTrue result → FoldAlike (units text.now) name.now }
+    ensures unlike { length (units text.now) ≡ length name.now → FoldAlikeAt (units text.now) name.now → IsTrue result }
+{
+    count(text) == name.len()
+        && Units::of(text)
+            .zip(name)
+            .all(|(u, b)| fold(u) == fold(u16::from(*b)))
 }

@@ -2,7 +2,7 @@
 ghost use Rattle.std.specs.Prelude.{◌≡◌};
 ghost use Rattle.words.specs.Terminals.{mark};
 
-#[derive(Clone, Copy)]
+#[derive(Clone, Copy, PartialEq, Eq, Debug, Default)]
 pub enum Terminal {
     Imply,
     Semicolon,
@@ -24,6 +24,7 @@ pub enum Terminal {
     KeyValue,
     KeyValueType,
     KeyClaim,
+    #[default]
     Identifier,
     Literal,
     Uint64Type,

@@ -1,6 +1,6 @@
 use Rattle.std.proofs.Common.{rules}
-use Rattle.std.proofs.lemmas.List.{get_or_past}
+use Rattle.std.proofs.lemmas.Option.{unwrap_or-slice_get}
 use Rattle.units.proofs.unit_or_zero.Goals as goal
 
-pub returns-else-i-count : goal.returns-else-i-count
-returns-else-i-count c = search (rules, get_or_past)
+pub returns : goal.returns
+returns c = search (rules, unwrap_or-slice_get)
