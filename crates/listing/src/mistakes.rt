@@ -87,7 +87,7 @@ impl fmt::Display for Mistake {
     ghost output = { λ m. Some (words_of m) };
 
     fn fmt<W: fmt::Write>(&self, f: &mut fmt::Formatter<W>) -> fmt::Result {
-        f.write_str(self.words())
+        f.pad(self.words())
     }
 }
 
