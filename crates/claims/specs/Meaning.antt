@@ -1,5 +1,5 @@
 -- What a claim means: texts as lists of units, and a value; no place, no buffer, no bytes.
-use Rattle.std.specs.Prelude.{ℕ, Bool, cond, List, ℤ, Some, None, codes, Option}
+use Rattle.std.specs.Prelude.{ℕ, Bool, if◌then◌else◌, List, ℤ, Some, None, codes, Option}
 use Rattle.units.specs.Fold.{same_units}
 use Rattle.claims.specs.declared.values.ValueType.{ValueType}
 use Rattle.claims.specs.declared.values.ValueType.TheVariants.{Uint64, Int64, String, Boolean}
@@ -18,13 +18,20 @@ pub record Claim : Type 0 where
 abbrev pub claim : List ℕ → List ℕ → Value → Claim
 claim t w v = record { typ = t; word = w; value = v }
 
+abbrev pub name_of : ValueType → List ℕ
+name_of Uint64 = codes "uint64"
+name_of Int64 = codes "int64"
+name_of String = codes "string"
+name_of Boolean = codes "boolean"
+
 -- the value type that a word spells, in any case
 abbrev pub named : List ℕ → Option ValueType
 named w =
-    cond (same_units w (codes "uint64")) (Some Uint64)
-    (cond (same_units w (codes "int64")) (Some Int64)
-    (cond (same_units w (codes "string")) (Some String)
-    (cond (same_units w (codes "boolean")) (Some Boolean) None)))
+    if same_units w (name_of Uint64) then Some Uint64
+    else if same_units w (name_of Int64) then Some Int64
+    else if same_units w (name_of String) then Some String
+    else if same_units w (name_of Boolean) then Some Boolean
+    else None
 
 -- the value type that a value is of
 abbrev pub type_of : Value → ValueType

@@ -10,5 +10,5 @@ mod values;
 
 pub use records::Claim;
 pub use sources::{Claims, Listed, One, Source};
-pub use texts::{Origin, Part, Text, Texts, claim_text};
+pub use texts::{Origin, Part, Text, Texts};
 pub use values::{Value, ValueType, value_type};

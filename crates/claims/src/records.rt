@@ -2,7 +2,7 @@
 use super::texts::Text;
 use super::values::Value;
 
-#[derive(Clone, Copy, PartialEq, Eq, Debug)]
+#[derive(Clone, Copy, PartialEq, Eq, Debug, Default)]
 pub struct Claim {
     pub typ: Text,
     pub word: Text,

@@ -75,7 +75,7 @@ impl Source for One {
     }
 
     fn claim_at(&self, n: usize) -> Option<Claim> {
-        if n == 0 { Some(self.claim) } else { None }
+        (n == 0).then_some(self.claim)
     }
 }
 
@@ -90,11 +90,8 @@ impl<'a> Listed<'a> {
     pub fn over(claims: &'a [Claim]) -> Listed<'a>
         ensures { result.claims.now ≡ take 512 claims.now }
     {
-        if claims.len() <= 512 {
-            return Listed { claims };
-        }
         Listed {
-            claims: &claims[0..512],
+            claims: claims.get(..512).unwrap_or(claims),
         }
     }
 }

@@ -4,14 +4,15 @@ ghost use Rattle.std.specs.Option.{option_map};
 ghost use Rattle.claims.specs.Texts.{source_of, start_of, part_of};
 
 // The two texts that a claim's text may lie in.
-#[derive(Clone, Copy, PartialEq, Eq, Debug)]
+#[derive(Clone, Copy, PartialEq, Eq, Debug, Default)]
 pub enum Origin {
+    #[default]
     Rules,
     Packet,
 }
 
 // Places count from 0, by units in the rule text and by bytes in the packet; the length counts units.
-#[derive(Clone, Copy, PartialEq, Eq, Debug)]
+#[derive(Clone, Copy, PartialEq, Eq, Debug, Default)]
 pub struct Text {
     pub origin: Origin,
     pub place: u16,
@@ -19,7 +20,7 @@ pub struct Text {
 }
 
 // A text as it is handed out: its bytes, and where they lie.
-#[derive(Clone, Copy)]
+#[derive(Clone, Copy, PartialEq, Eq, Debug)]
 pub struct Part<'a> {
     pub bytes: &'a [u8],
     pub origin: Origin,
@@ -67,26 +68,4 @@ fn start(text: Text) -> usize
         Origin::Rules => 2 * usize::from(text.place),
         Origin::Packet => usize::from(text.place),
     }
-}
-
-// The text as a part of the rule text or of the packet, or none where it lies outside.
-pub fn claim_text<'a>(text: Text, rules: &'a [u8], packet: &'a [u8]) -> Option<Part<'a>>
-    ensures bytes { option_map (λ p. p.bytes.now) result ≡ part_of rules.now packet.now text }
-    ensures size { IfSome result (λ p. (length p.bytes.now ≡ 2 * text.len) × (text.len < 65536)) }
-    ensures place { IfSome result (λ p. (p.origin ≡ text.origin) × (p.place ≡ text.place)) }
-{
-    let whole = match text.origin {
-        Origin::Rules => rules,
-        Origin::Packet => packet,
-    };
-    let from = start(text);
-    let to = from + 2 * usize::from(text.len);
-    if to > whole.len() {
-        return None;
-    }
-    Some(Part {
-        bytes: &whole[from..to],
-        origin: text.origin,
-        place: text.place,
-    })
 }

@@ -1,5 +1,5 @@
 -- What a check answers: accepted are exactly the packets of some claims, and the records stand for those.
-use Rattle.std.specs.Prelude.{◌≡◌, ℕ, ◌+◌, ◌-◌, ◌<◌, ◌⊎◌, List, [], ◌∷◌, ◌++◌, length, take, drop, Some, None, Ok, Err, Option, ◌≢◌, slice_index}
+use Rattle.std.specs.Prelude.{◌≡◌, ℕ, ◌+◌, ◌-◌, ◌<◌, ◌⊎◌, List, [], ◌∷◌, ◌++◌, length, take, drop, Some, None, Ok, Err, Option, Result, ◌≢◌, slice_index}
 use Rattle.std.specs.List.{AllByRecursion}
 use Rattle.claims.specs.Claims.{claims_of}
 use Rattle.claims.specs.Meaning.{Claim}
@@ -15,6 +15,11 @@ use Rattle.packet.specs.Records.{records_in}
 abbrev pub fault_in : Verdict → Option Fault
 fault_in (Ok cs) = None
 fault_in (Err f) = Some f
+
+-- what a check answers with no packet
+abbrev pub fault_of : {X : Type 0} → Result X Fault → Option Fault
+fault_of (Ok x) = None
+fault_of (Err f) = Some f
 
 -- the packet that goes on: the bytes, or the empty packet where they were refused
 abbrev pub kept : List ℕ → Option Fault → List ℕ

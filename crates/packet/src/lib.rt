@@ -7,5 +7,4 @@ mod claims_in;
 mod fields;
 mod packets;
 
-pub use packets::Packet;
-pub use packets::checks::{Checked, check};
+pub use packets::{Packet, check};

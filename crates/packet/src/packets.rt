@@ -1,9 +1,12 @@
-// A checked packet: its bytes, and how many claims they carry.
-ghost use Rattle.std.specs.Prelude.{◌≡◌, true, length, is_ok};
+// A checked packet: its bytes, and how many claims they carry; a source of claims, with places in the packet.
+ghost use Rattle.std.specs.Prelude.{◌≡◌, [], ◌∷◌, true, length, is_ok, IfOk};
+ghost use Rattle.packet.specs.Exact.{Exact, fault_in, fault_of};
 ghost use Rattle.packet.specs.Judge.{judge, claims_in};
+ghost use Rattle.packet.specs.Records.{records_in};
 
-pub mod checks;
-pub mod sources;
+use super::claims_in::{claim_in, judged, past};
+use claims::{Claim, Source};
+use faults::Fault;
 
 // Only a check makes one, so whoever holds it holds bytes that were accepted.
 #[derive(Clone, Copy)]
@@ -12,4 +15,58 @@ pub struct Packet<'a> {
     count: u16,
     ghost accepted: { is_ok (judge bytes.now) ≡ true },
     ghost counted: { count ≡ length (claims_in (judge bytes.now)) },
+}
+
+impl<'a> Packet<'a> {
+    // The packet that carries no claim: what to go on with where bytes were refused.
+    pub fn empty() -> Packet<'a>
+        ensures { result.bytes.now ≡ 1 ∷ 0 ∷ 0 ∷ [] }
+    {
+        Packet {
+            bytes: b"\x01\x00\x00",
+            count: 0,
+        }
+    }
+
+    // The bytes that were checked.
+    pub fn bytes(&self) -> &'a [u8]
+        ensures { result.now ≡ self.now.bytes.now }
+    {
+        self.bytes
+    }
+}
+
+// The bytes as a packet, or the first fault that keeps them from being one.
+pub fn check(bytes: &[u8]) -> Result<Packet<'_>, Fault>
+    ensures fault { fault_of result ≡ fault_in (judge bytes.now) }
+    ensures packet { IfOk result (λ p. p.bytes.now ≡ bytes.now) }
+    ensures exact { Exact bytes.now (fault_of result) }
+{
+    let count = judged(bytes)?;
+    Ok(Packet { bytes, count })
+}
+
+impl<'a> Source for Packet<'a> {
+    ghost list = { λ p. records_in p.bytes.now };
+
+    fn count(&self) -> usize {
+        usize::from(self.count)
+    }
+
+    fn claim_at(&self, n: usize) -> Option<Claim> {
+        let bytes = self.bytes;
+        let mut at = 3;
+        let mut left = n;
+        while at < bytes.len() {
+            let Ok(claim) = claim_in(bytes, at) else {
+                return None;
+            };
+            if left == 0 {
+                return Some(claim);
+            }
+            left -= 1;
+            at = past(claim);
+        }
+        None
+    }
 }

@@ -1,7 +1,7 @@
 use Rattle.std.proofs.Common.{◌-◌, length}
 use Rattle.packet.specs.Judge.{judge, claims_in}
 use Rattle.packet.proofs.Walks.{Left}
-use Rattle.packet.proofs.packets.sources.PacketSource.claim_at.Given as goal
+use Rattle.packet.proofs.packets.PacketSource.claim_at.Given as goal
 
 abbrev pub invariant-loop-at : goal.invariant-loop-at
 invariant-loop-at l = Left l.bytes (claims_in (judge l.bytes)) l.at l.left l.n

@@ -5,7 +5,7 @@ use Rattle.packet.specs.Judge.{judge, claims_in}
 use Rattle.packet.specs.Records.{claim_record}
 use Rattle.packet.proofs.Standing.{claim_there, slice_get-records}
 use Rattle.packet.proofs.Walks.{place_of, judge_fine, left_starts, left_ends, left_fails, left_here, left_goes}
-use Rattle.packet.proofs.packets.sources.PacketSource.claim_at.Goals as goal
+use Rattle.packet.proofs.packets.PacketSource.claim_at.Goals as goal
 
 pub loop-at-init : goal.loop-at-init
 loop-at-init c = left_starts c.args.self.now.bytes.now c.args.n c.args.self.now.accepted
@@ -36,10 +36,10 @@ loop-at-preserved c =
     left_goes bs (claims_in (judge bs)) c.loop-at.at c.loop-at.left c.args.n c.loop-at.invariant c.loop-at-test.true c.past-at.result
     (held_claim bs c.in-Ok.claim) (sym c.in-Ok.ensures.means) (c.past-at.ensures ∙ c.in-Ok.ensures.lies.ends) c.if-left-eq0.false
 
-pub returns-in-Err : goal.returns-in-Err
-returns-in-Err c =
+pub returns-in_default : goal.returns-in_default
+returns-in_default c =
     let bs = c.args.self.now.bytes.now in
-    left_fails bs (claims_in (judge bs)) c.loop-at.at c.loop-at.left c.args.n c.loop-at.invariant c.loop-at-test.true _ (sym c.in-Err.ensures.means)
+    left_fails bs (claims_in (judge bs)) c.loop-at.at c.loop-at.left c.args.n c.loop-at.invariant c.loop-at-test.true _ (sym c.in_default.ensures.means)
 
 pub returns : goal.returns
 returns c =

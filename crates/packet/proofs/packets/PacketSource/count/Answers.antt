@@ -2,7 +2,7 @@ use Rattle.std.proofs.Common.{refl, ◌∙◌, arith}
 use Rattle.packet.specs.Judge.{judge, claims_in}
 use Rattle.packet.proofs.Standing.{length-records}
 use Rattle.packet.proofs.Walks.{judge_few}
-use Rattle.packet.proofs.packets.sources.PacketSource.count.Goals as goal
+use Rattle.packet.proofs.packets.PacketSource.count.Goals as goal
 
 pub returns : goal.returns
 returns c =
