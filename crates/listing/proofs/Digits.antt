@@ -1,81 +1,93 @@
-use Rattle.std.proofs.Common.{◌≡◌, ℕ, ◌+◌, ◌-◌, ◌*◌, ◌<◌, ◌≤◌, Bool, true, false, cond, ◌&&◌, eqb, leb, ◌⊎◌, List, [], ◌∷◌, length, get_or, drop, Some, None, Ok, Err, sym, refl, ap, ◌∙◌, inl, inr, arith, length-drop, eq-eqb, ne_eqb, le-leb}
-use Rattle.std.proofs.lemmas.List.{at_drop_more, drop_all}
+use Rattle.std.proofs.Common.{◌≡◌, ℕ, zero, suc, ◌+◌, ◌-◌, ◌*◌, ◌<◌, ◌≤◌, Bool, true, false, ◌&&◌, leb, List, [], ◌∷◌, length, get_or, Some, None, Option, Ok, Err, subst, sym, refl, ap, ◌∙◌, arith, le-leb}
 use Rattle.std.proofs.lemmas.Bool.{and_parts, leb-true, cond-true, cond-false}
-use Rattle.std.proofs.lemmas.Bool.Decides.{nat_tests}
 use borrow.Author.Tests.{lt-leb}
-use Rattle.std.specs.List.{slice_get}
+use Rattle.std.specs.Option.{SomeIff, ok_or}
+use Rattle.std.specs.Bool.{MatchBool}
+use Rattle.std.specs.List.{AllWithin, HoldsAt}
+use Rattle.units.specs.Units.{units}
 use Rattle.listing.specs.declared.mistakes.Mistake.TheVariants.{NotANumber, NumberOutOfRange}
-use Rattle.listing.specs.Numbers.{digit, digits, decimal, up_to, unsigned_of, signed_of, positive, negative}
+use Rattle.listing.specs.Numbers.{digit, digits, decimal, up_to, unsigned_of}
 
-digits_more : (us : List ℕ) (i : ℕ) → i < length us → digits (drop i us) ≡ (digit (get_or us i 0) && digits (drop (i + 1) us))
-digits_more us i h = at_drop_more digits us i 0 h
-
-not_digit : (u : ℕ) → (u < 48) ⊎ (57 < u) → digit u ≡ false
-not_digit u h = grind (arith, nat_tests)
-
-is_digit : (u : ℕ) → 48 ≤ u → u ≤ 57 → digit u ≡ true
-is_digit u h k = grind (arith, nat_tests)
-
-pub digits_stop : (us : List ℕ) (i u : ℕ) → i < length us → u ≡ get_or us i 0 → (u < 48) ⊎ (57 < u) → digits (drop i us) ≡ false
-digits_stop us i u h e w = digits_more us i h ∙ ap (λ b. b && digits (drop (i + 1) us)) (ap digit (sym e) ∙ not_digit u w)
-
-pub digits_go : (us : List ℕ) (i u : ℕ) → i < length us → u ≡ get_or us i 0 → 48 ≤ u → u ≤ 57 → digits (drop (i + 1) us) ≡ digits (drop i us)
-digits_go us i u h e a b = sym (digits_more us i h ∙ ap (λ t. t && digits (drop (i + 1) us)) (ap digit (sym e) ∙ is_digit u a b))
-
--- what digits from a place on say of the unit there, and of those after it
-pub digit_at : (us : List ℕ) (i u : ℕ) → i < length us → u ≡ get_or us i 0 → digits (drop i us) ≡ true
-    → (48 ≤ u) × (u ≤ 57) × (digits (drop (i + 1) us) ≡ true)
-digit_at us i u h e d =
-    let p = and_parts (digit (get_or us i 0)) (digits (drop (i + 1) us)) (sym (digits_more us i h) ∙ d) in
-    let q = and_parts (leb 48 (get_or us i 0)) (leb (get_or us i 0) 57) p.0 in
+-- what digits say of the first, and of those after it
+digit_first : (u : ℕ) (us : List ℕ) → digits (u ∷ us) ≡ true → (48 ≤ u) × (u ≤ 57) × (digits us ≡ true)
+digit_first u us d =
+    let p = and_parts (digit u) (digits us) d in
+    let q = and_parts (leb 48 u) (leb u 57) p.0 in
     let a = leb-true _ _ q.0 in
     let b = leb-true _ _ q.1 in
     (omega arith, omega arith, p.1)
 
-pub decimal_grows : (n : ℕ) (us : List ℕ) → n ≤ decimal n us
+decimal_grows : (n : ℕ) (us : List ℕ) → n ≤ decimal n us
 decimal_grows n [] = omega arith
 decimal_grows n (u ∷ us) = let r = decimal_grows (10 * n + (u - 48)) us in omega arith
 
-pub decimal_more : (us : List ℕ) (i n u : ℕ) → i < length us → u ≡ get_or us i 0 → decimal n (drop i us) ≡ decimal (10 * n + (u - 48)) (drop (i + 1) us)
-decimal_more us i n u h e = at_drop_more (decimal n) us i 0 h ∙ ap (λ v. decimal (10 * n + (v - 48)) (drop (i + 1) us)) (sym e)
+-- the first of the digits
+pub digit_of : (u : ℕ) (us vs : List ℕ) → us ≡ u ∷ vs → digits us ≡ true → (48 ≤ u) × (u ≤ 57) × (digits vs ≡ true)
+digit_of u us vs e d = digit_first u vs (sym (ap digits e) ∙ d)
 
-pub unsigned_none : (us : List ℕ) (from : ℕ) → length us ≤ from → unsigned_of (drop from us) ≡ Err NotANumber
-unsigned_none us from h = ap unsigned_of (drop_all from us h)
+-- a number that is too large with one digit more stays so
+pub too_large : (n u : ℕ) (us vs all : List ℕ) → us ≡ u ∷ vs → decimal n us ≡ decimal 0 all → 18446744073709551615 < 10 * n + (u - 48)
+    → decimal 0 all ≤ 18446744073709551615 → ⊥
+too_large n u us vs all e d h k =
+    let g = decimal_grows (10 * n + (u - 48)) vs in
+    let f : decimal n us ≡ decimal (10 * n + (u - 48)) vs = ap (decimal n) e in
+    omega arith
 
-unsigned_some : (us : List ℕ) → 0 < length us → unsigned_of us ≡ cond (digits us) (up_to 18446744073709551615 (decimal 0 us)) (Err NotANumber)
-unsigned_some [] h = absurd (omega arith)
-unsigned_some (u ∷ us) h = refl
+-- one digit more
+pub decimal_next : (n u m : ℕ) (us vs : List ℕ) → us ≡ u ∷ vs → m ≡ 10 * n + (u - 48) → decimal m vs ≡ decimal n us
+decimal_next n u m us vs e h = ap (λ k. decimal k vs) h ∙ sym (ap (decimal n) e)
 
-unsigned_at : (us : List ℕ) (from : ℕ) → from < length us
-    → unsigned_of (drop from us) ≡ cond (digits (drop from us)) (up_to 18446744073709551615 (decimal 0 (drop from us))) (Err NotANumber)
-unsigned_at us from h = let l = length-drop from us in unsigned_some (drop from us) (omega arith)
+pub none_iff : {o : Option ℕ} {P : Type 0} (v : ℕ) → o ≡ None → (P → ⊥) → SomeIff o P v
+none_iff {P = P} v e h = subst (λ o. SomeIff o P v) (sym e) h
 
-module _ (us : List ℕ) (from : ℕ) (h : from < length us) where
-  pub unsigned_not : digits (drop from us) ≡ false → unsigned_of (drop from us) ≡ Err NotANumber
-  unsigned_not d = unsigned_at us from h ∙ cond-false _ _ _ d
+pub unsigned_not : (us : List ℕ) → digits us ≡ false → unsigned_of us ≡ Err NotANumber
+unsigned_not [] d = refl
+unsigned_not (u ∷ us) d = cond-false _ _ _ d
 
-  pub unsigned_fits : digits (drop from us) ≡ true → decimal 0 (drop from us) ≤ 18446744073709551615 → unsigned_of (drop from us) ≡ Ok (decimal 0 (drop from us))
-  unsigned_fits d k = unsigned_at us from h ∙ cond-true _ _ _ d ∙ cond-true _ _ _ (le-leb _ _ k)
+unsigned_some : (us : List ℕ) → 0 < length us → digits us ≡ true → unsigned_of us ≡ up_to 18446744073709551615 (decimal 0 us)
+unsigned_some [] h d = absurd (omega arith)
+unsigned_some (u ∷ us) h d = cond-true _ _ _ d
 
-  pub unsigned_over : digits (drop from us) ≡ true → (decimal 0 (drop from us) ≤ 18446744073709551615 → ⊥) → unsigned_of (drop from us) ≡ Err NumberOutOfRange
-  unsigned_over d k = unsigned_at us from h ∙ cond-true _ _ _ d ∙ (let m : 18446744073709551615 < decimal 0 (drop from us) = omega arith in cond-false _ _ _ (lt-leb _ _ m))
+unsigned_fits : (us : List ℕ) → 0 < length us → digits us ≡ true → decimal 0 us ≤ 18446744073709551615 → unsigned_of us ≡ Ok (decimal 0 us)
+unsigned_fits us h d k = unsigned_some us h d ∙ cond-true _ _ _ (le-leb _ _ k)
 
-pub signed_none : (us : List ℕ) → slice_get us 0 ≡ None → signed_of us ≡ Err NotANumber
-signed_none [] e = refl
-signed_none (u ∷ us) e = let z : ◌≡◌ {A = ℕ} 0 1 = cc in absurd (omega arith)
+unsigned_over : (us : List ℕ) → 0 < length us → digits us ≡ true → (decimal 0 us ≤ 18446744073709551615 → ⊥) → unsigned_of us ≡ Err NumberOutOfRange
+unsigned_over us h d k =
+    unsigned_some us h d ∙ (let m : 18446744073709551615 < decimal 0 us = omega arith in cond-false _ _ _ (lt-leb _ _ m))
 
-pub signed_minus : (us : List ℕ) (u : ℕ) → slice_get us 0 ≡ Some u → u ≡ 45 → signed_of us ≡ negative (unsigned_of (drop 1 us))
-signed_minus [] u e h = let z : ◌≡◌ {A = ℕ} 0 1 = cc in absurd (omega arith)
-signed_minus (v ∷ us) u e h = let m : v ≡ 45 = cc in cond-true (eqb v 45) _ _ (eq-eqb v 45 m)
+units_short : (bs : List ℕ) → length bs < 2 → units bs ≡ []
+units_short [] h = refl
+units_short (a ∷ []) h = refl
+units_short (a ∷ b ∷ bs) h = absurd (omega arith)
 
-pub signed_plus : (us : List ℕ) (u : ℕ) → slice_get us 0 ≡ Some u → u ≡ 43 → signed_of us ≡ positive (unsigned_of (drop 1 us))
-signed_plus [] u e h = let z : ◌≡◌ {A = ℕ} 0 1 = cc in absurd (omega arith)
-signed_plus (v ∷ us) u e h =
-    let m : v ≡ 43 = cc in
-    cond-false (eqb v 45) _ _ (ne_eqb v 45 (λ n. omega arith)) ∙ cond-true (eqb v 43) _ _ (eq-eqb v 43 m)
+pub units_some : (bs : List ℕ) → 2 ≤ length bs → 0 < length (units bs)
+units_some [] h = absurd (omega arith)
+units_some (a ∷ []) h = absurd (omega arith)
+units_some (a ∷ b ∷ bs) h = omega arith
 
-pub signed_plain : (us : List ℕ) (u : ℕ) → slice_get us 0 ≡ Some u → (u ≡ 45 → ⊥) → (u ≡ 43 → ⊥) → signed_of us ≡ positive (unsigned_of (drop 0 us))
-signed_plain [] u e h k = let z : ◌≡◌ {A = ℕ} 0 1 = cc in absurd (omega arith)
-signed_plain (v ∷ us) u e h k =
-    let m : v ≡ u = cc in
-    cond-false (eqb v 45) _ _ (ne_eqb v 45 (λ n. h (sym m ∙ n))) ∙ cond-false (eqb v 43) _ _ (ne_eqb v 43 (λ n. k (sym m ∙ n)))
+pub unsigned_short : (bs : List ℕ) → length bs < 2 → unsigned_of (units bs) ≡ Err NotANumber
+unsigned_short bs h = ap unsigned_of (units_short bs h)
+
+all_digits : (us : List ℕ) → AllWithin (λ u. digit u ≡ true) us 0 (length us) → digits us ≡ true
+all_digits [] h = refl
+all_digits (u ∷ us) h = ap (λ b. b && digits us) (h 0 0 (omega arith) (omega arith)) ∙ all_digits us (λ k d a b. h (suc k) d (omega arith) (omega arith))
+
+and_not : (b : Bool) → (b && false) ≡ false
+and_not true = refl
+and_not false = refl
+
+no_digit : (us : List ℕ) (k : ℕ) → k < length us → digit (get_or us k 0) ≡ false → digits us ≡ false
+no_digit [] k h e = absurd (omega arith)
+no_digit (u ∷ us) zero h e = ap (λ b. b && digits us) e
+no_digit (u ∷ us) (suc k) h e = ap (λ b. digit u && b) (no_digit us k (omega arith) e) ∙ and_not (digit u)
+
+-- each unit was a digit, or some unit was none
+pub digits_by_cases : (us : List ℕ) (r : Bool)
+    → MatchBool r (AllWithin (λ u. digit u ≡ true) us 0 (length us)) ((k : ℕ) × (k < length us) × HoldsAt (λ u. digit u ≡ false) us k) → r ≡ digits us
+digits_by_cases us true h = sym (all_digits us h)
+digits_by_cases us false h = sym (no_digit us h.0 h.1 (h.2 0))
+
+pub unsigned_by : (us : List ℕ) (o : Option ℕ) → 0 < length us → digits us ≡ true → SomeIff o (decimal 0 us ≤ 18446744073709551615) (decimal 0 us)
+    → ok_or o NumberOutOfRange ≡ unsigned_of us
+unsigned_by us (Some n) h d e = ap Ok e.1 ∙ sym (unsigned_fits us h d e.0)
+unsigned_by us None h d e = sym (unsigned_over us h d e)

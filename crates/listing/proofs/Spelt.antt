@@ -1,8 +1,7 @@
-use Rattle.std.proofs.Common.{◌≡◌, ℕ, ◌+◌, ◌-◌, ◌*◌, ◌/◌, ◌%◌, ◌<◌, ◌≤◌, ltb, List, [], ◌∷◌, ◌++◌, length, get_or, take, sym, refl, ap, ◌∙◌, append_assoc, arith, le-ltb}
-use Rattle.std.proofs.lemmas.Bool.{cond-false}
+use Rattle.std.specs.Int.{w16, to_be_bytes}
+use Rattle.std.proofs.Common.{◌≡◌, ℕ, ◌+◌, ◌*◌, ◌/◌, ◌%◌, ◌<◌, cond, List, [], ◌∷◌, ◌++◌, length, get_or, take, is_ok, Ok, Err, Result, sym, refl, ap, ◌∙◌, append_assoc, arith}
 use Rattle.std.proofs.lemmas.List.{take_more, append-nil}
-use Rattle.units.specs.Units.{unit_bytes}
-use Rattle.listing.specs.Fields.{Whole}
+use Rattle.units.specs.Units.{units, unit_bytes}
 use Rattle.listing.specs.Letters.{utf16, spelling}
 
 pub unit_bytes-append : (us vs : List ℕ) → unit_bytes (us ++ vs) ≡ unit_bytes us ++ unit_bytes vs
@@ -13,9 +12,39 @@ pub length-unit_bytes : (us : List ℕ) → length (unit_bytes us) ≡ 2 * lengt
 length-unit_bytes [] = refl
 length-unit_bytes (u ∷ us) = let r = length-unit_bytes us in omega arith
 
+units_again : (us : List ℕ) → units (unit_bytes us) ≡ us
+units_again [] = refl
+units_again (u ∷ us) =
+    let e : u / 256 * 256 + u % 256 ≡ u = omega arith in
+    ap (λ v. v ∷ units (unit_bytes us)) e ∙ ap (λ t. u ∷ t) (units_again us)
+
+-- the bytes of some units are those of their own
+pub whole_of : (bs us : List ℕ) → bs ≡ unit_bytes us → bs ≡ unit_bytes (units bs)
+whole_of bs us e = e ∙ ap unit_bytes (sym (ap units e ∙ units_again us))
+
+-- whole units more, where memory allows
+pub whole_more : {X E : Type 0} (r : Result X E) (a m n us : List ℕ) → a ≡ unit_bytes (units a) → m ≡ unit_bytes us → n ≡ cond (is_ok r) (a ++ m) a → n ≡ unit_bytes (units n)
+whole_more (Ok x) a m n us w h e = whole_of n (units a ++ us) (e ∙ ap (λ t. t ++ m) w ∙ ap (λ t. unit_bytes (units a) ++ t) h ∙ sym (unit_bytes-append (units a) us))
+whole_more (Err x) a m n us w h e = whole_of n (units a) (e ∙ w)
+
+-- whole units are an even number of bytes
+pub whole_even : (a : List ℕ) → a ≡ unit_bytes (units a) → length a ≡ 2 * (length a / 2)
+whole_even a w = let l = length-unit_bytes (units a) in let e = ap length w in omega arith
+
 spelling-append : (cs ds : List ℕ) → spelling (cs ++ ds) ≡ spelling cs ++ spelling ds
 spelling-append [] ds = refl
 spelling-append (c ∷ cs) ds = ap (λ t. utf16 c ++ t) (spelling-append cs ds) ∙ sym (append_assoc (utf16 c) (spelling cs) (spelling ds))
+
+-- one unit more
+pub units_more : (us : List ℕ) (i x : ℕ) (a b d : List ℕ) → i < length us → x ≡ get_or us i x → b ≡ a ++ unit_bytes (take i us)
+    → d ≡ b ++ unit_bytes (x ∷ []) → d ≡ a ++ unit_bytes (take (i + 1) us)
+units_more us i x a b d h e p q =
+    q
+    ∙ ap (λ t. t ++ unit_bytes (x ∷ [])) p
+    ∙ append_assoc a (unit_bytes (take i us)) (unit_bytes (x ∷ []))
+    ∙ ap (λ t. a ++ t) (sym (unit_bytes-append (take i us) (x ∷ [])))
+    ∙ ap (λ y. a ++ unit_bytes (take i us ++ y ∷ [])) e
+    ∙ ap (λ t. a ++ unit_bytes t) (sym (take_more us i x h))
 
 -- one character more
 pub spelling_more : (cs : List ℕ) (i x : ℕ) (a b : List ℕ) → i < length cs → x ≡ get_or cs i x → a ≡ unit_bytes (spelling (take i cs))
@@ -29,24 +58,6 @@ spelling_more cs i x a b h e p q =
     ∙ ap (λ y. unit_bytes (spelling (take i cs ++ y ∷ []))) e
     ∙ ap (λ t. unit_bytes (spelling t)) (sym (take_more cs i x h))
 
-pair_units : (c : ℕ) → 65536 ≤ c → utf16 c ≡ (55296 + (c - 65536) / 1024) ∷ (56320 + (c - 65536) % 1024) ∷ []
-pair_units c h = cond-false (ltb c 65536) _ _ (le-ltb c 65536 h)
-
--- the two halves of a pair, one after the other
-pub pair_pushed : (a b d : List ℕ) (c : ℕ) → 65536 ≤ c → b ≡ a ++ unit_bytes ((55296 + (c - 65536) / 1024) ∷ [])
-    → d ≡ b ++ unit_bytes ((56320 + (c - 65536) % 1024) ∷ []) → d ≡ a ++ unit_bytes (utf16 c)
-pair_pushed a b d c h p q =
-    q
-    ∙ ap (λ t. t ++ unit_bytes ((56320 + (c - 65536) % 1024) ∷ [])) p
-    ∙ append_assoc a (unit_bytes ((55296 + (c - 65536) / 1024) ∷ [])) (unit_bytes ((56320 + (c - 65536) % 1024) ∷ []))
-    ∙ ap (λ us. a ++ unit_bytes us) (sym (pair_units c h))
-
-pub whole_more : (a b us : List ℕ) → Whole a → b ≡ a ++ unit_bytes us → Whole b
-whole_more a b us w e = (w.0 ++ us, e ∙ ap (λ t. t ++ unit_bytes us) w.1 ∙ sym (unit_bytes-append w.0 us))
-
--- whole units are an even number of bytes
-pub whole_even : (a : List ℕ) → Whole a → length a ≡ 2 * (length a / 2)
-whole_even a w = let l = length-unit_bytes w.0 in let e = ap length w.1 in omega arith
-
-pub whole_append : (a b d : List ℕ) → Whole a → Whole b → d ≡ a ++ b → Whole d
-whole_append a b d v w e = whole_more a d w.0 v (e ∙ ap (λ t. a ++ t) w.1)
+-- a unit's bytes, high byte first
+pub byte_pair : (u : ℕ) (bs : List ℕ) → u < 65536 → bs ≡ to_be_bytes w16 u → bs ≡ unit_bytes (u ∷ [])
+byte_pair u bs h e = let d : u / 256 % 256 ≡ u / 256 = omega arith in e ∙ ap (λ v. v ∷ u % 256 ∷ []) d

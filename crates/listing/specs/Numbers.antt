@@ -1,5 +1,5 @@
 -- Numbers and booleans as a list writes them: decimal digits, a sign, and the words for yes and no.
-use Rattle.std.specs.Prelude.{ℕ, ◌+◌, ◌-◌, ◌*◌, Bool, true, false, cond, ◌&&◌, ◌||◌, List, [], ◌∷◌, ℤ, pos, neg_ℤ, Ok, Err, codes, Result, ◌==◌, nat_le}
+use Rattle.std.specs.Prelude.{ℕ, ◌+◌, ◌-◌, ◌*◌, Bool, true, false, cond, ◌&&◌, List, [], ◌∷◌, ℤ, pos, neg_ℤ, Ok, Err, codes, Result, ◌==◌, nat_le}
 use Rattle.units.specs.Fold.{same_units}
 use Rattle.listing.specs.declared.mistakes.Mistake.{Mistake}
 use Rattle.listing.specs.declared.mistakes.Mistake.TheVariants.{NotANumber, NumberOutOfRange, NotABoolean}

@@ -1,39 +1,43 @@
-// The fields of a line: a bare word, or a quoted text with escapes, as units in bytes.
-ghost use Rattle.std.specs.Prelude.{◌≡◌, ◌-◌, ◌<◌, ◌≤◌, ◌++◌, length, take, drop, IfOk, OnOk};
-ghost use Rattle.units.specs.Units.{unit_bytes};
-ghost use Rattle.listing.specs.Fields.{bare, Whole, Ahead, Spelt, Read};
-ghost use Rattle.listing.specs.Letters.{spelling};
+// The fields of a line: a bare word, or a quoted text with escapes.
+ghost use Rattle.std.specs.Prelude.{◌≡◌, ◌<◌, ◌≤◌, ◌++◌, true, length, vec_len, IfOk, IfSome};
+ghost use Rattle.units.specs.Form.{well_formed};
+ghost use Rattle.units.specs.Units.{units};
+ghost use Rattle.listing.specs.Fields.{bare};
 
-use super::letters::{escape_unit, hex_unit, is_blank, push_char, push_unit, spell};
+use super::letters::{escape_unit, hex_unit, is_blank};
 use super::mistakes::{Mistake, Stop};
+use super::texts::{UnitText, spell};
 use std::alloc::Global;
 use units::is_well_formed;
 
-// What a field spells, and the place after it.
+// What a field spells, and the place on its line where it begins.
 #[derive(Drop)]
 pub struct Field {
-    pub text: Vec<u8>,
-    pub next: usize,
+    text: UnitText,
+    at: usize,
+    pub ghost short: { vec_len text.bytes ≤ 510 },
+    pub ghost formed: { well_formed (units text.bytes.items) ≡ true },
 }
 
-// The unit that an escape stands for, and the place after it.
-#[derive(Clone, Copy)]
-pub struct Escape {
-    pub unit: u16,
-    pub next: usize,
-}
-
-// The first place from `at` on that has no blank.
-pub fn skip_blanks(line: &[char], at: usize) -> usize
-    requires { at ≤ length line.now }
-    ensures from { at ≤ result }
-    ensures within { result ≤ length line.now }
-{
-    let mut i = at;
-    while i < line.len() && is_blank(line[i]) {
-        i += 1;
+impl Field {
+    pub fn text(&self) -> &UnitText
+        ensures { result.now ≡ self.now.text }
+    {
+        &self.text
     }
-    i
+
+    // The mistake, told of this field.
+    pub fn stop(&self, mistake: Mistake) -> Stop {
+        Stop::At(mistake, self.at)
+    }
+}
+
+// The letters of a line that are still to be read, and how many the line has.
+#[derive(Clone, Copy)]
+pub struct Line<'a> {
+    rest: &'a [char],
+    size: usize,
+    ghost within: { length rest.now ≤ size },
 }
 
 fn is_bare(c: char) -> bool
@@ -42,109 +46,105 @@ fn is_bare(c: char) -> bool
     !is_blank(c) && c != '"'
 }
 
-// The place after the bare word that begins at `at`.
-fn word_end(line: &[char], at: usize) -> usize
-    requires { at ≤ length line.now }
-    ensures from { at ≤ result }
-    ensures within { result ≤ length line.now }
-{
-    let mut i = at;
-    while i < line.len() && is_bare(line[i]) {
-        i += 1;
-    }
-    i
-}
-
-fn bare_word(heap: Global, line: &[char], at: usize) -> Result<Field, Stop>
-    requires { at ≤ length line.now }
-    ensures spelt { IfOk result (λ f. Spelt (length line.now) f) }
-    ensures value { IfOk result (λ f. f.text.items ≡ unit_bytes (spelling (take (f.next - at) (drop at line.now)))) }
-{
-    let next = word_end(line, at);
-    let text = spell(heap, &line[at..next])?;
-    Ok(Field { text, next })
-}
-
-// The escape whose backslash stands at `at`.
-fn escape_at(line: &[char], at: usize) -> Option<Escape>
-    requires { at < length line.now }
-    ensures { Ahead at (length line.now) result }
-{
-    let left = line.len() - at;
-    if left < 2 {
-        return None;
-    }
-    let letter = line[at + 1];
-    if letter != 'u' {
-        let unit = escape_unit(letter)?;
-        let next = at + 2;
-        return Some(Escape { unit, next });
-    }
-    if left < 6 {
-        return None;
-    }
-    let unit = hex_unit(line[at + 2], line[at + 3], line[at + 4], line[at + 5])?;
-    let next = at + 6;
-    Some(Escape { unit, next })
-}
-
-// One character or escape of a quoted text more; the place after it.
-fn quoted_part(text: &mut Vec<u8>, line: &[char], at: usize) -> Result<usize, Stop>
-    requires place { at < length line.now }
-    requires whole { Whole text.old.items }
-    ensures ahead { IfOk result (λ n. (at < n) × (n ≤ length line.now)) }
-    ensures whole { OnOk result (Whole text.new.items) }
-{
-    let letter = line[at];
-    if letter != '\\' {
-        push_char(text, letter)?;
-        return Ok(at + 1);
-    }
-    match escape_at(line, at) {
-        Some(found) => {
-            push_unit(text, found.unit)?;
-            Ok(found.next)
+impl<'a> Line<'a> {
+    pub fn of(letters: &'a [char]) -> Line<'a>
+        ensures { result.rest.now ≡ letters.now }
+    {
+        Line {
+            rest: letters,
+            size: letters.len(),
         }
-        None => Err(Stop::At(Mistake::BadEscape, at)),
     }
-}
 
-// The quoted text whose opening mark stands at `open`.
-fn quoted(heap: Global, line: &[char], open: usize) -> Result<Field, Stop>
-    requires { «open» < length line.now }
-    ensures { IfOk result (λ f. Spelt (length line.now) f) }
-{
-    let mut text = Vec::new(heap);
-    let mut at = open + 1;
-    while at < line.len() {
-        if line[at] == '"' {
-            let next = at + 1;
-            return Ok(Field { text, next });
+    // How many letters stand before the rest.
+    pub fn place(&self) -> usize {
+        self.size - self.rest.len()
+    }
+
+    pub fn first(&self) -> Option<char> {
+        self.rest.first().copied()
+    }
+
+    fn next(&mut self) -> Option<char>
+        ensures { IfSome result (λ c. length self.new.rest.now < length self.old.rest.now) }
+    {
+        let (first, rest) = self.rest.split_first()?;
+        self.rest = rest;
+        Some(*first)
+    }
+
+    // The letters up to the first that does not belong.
+    fn run<F: Fn(char) -> bool>(&mut self, belongs: F) -> &'a [char]
+        requires { F.IsAlwaysCallable belongs }
+        ensures { self.old.rest.now ≡ result.now ++ self.new.rest.now }
+    {
+        let end = self.rest.iter().position(|c| !belongs(*c));
+        let (run, rest) = self.rest.split_at(end.unwrap_or(self.rest.len()));
+        self.rest = rest;
+        run
+    }
+
+    pub fn skip_blanks(&mut self) {
+        self.run(is_blank);
+    }
+
+    // The unit of an escape, behind its backslash.
+    fn escape(&mut self) -> Option<u16>
+        ensures { length self.new.rest.now ≤ length self.old.rest.now }
+    {
+        let (unit, rest) = match self.rest {
+            ['u', a, b, c, d, rest @ ..] => (hex_unit(*a, *b, *c, *d)?, rest),
+            [letter, rest @ ..] => (escape_unit(*letter)?, rest),
+            [] => return None,
+        };
+        self.rest = rest;
+        Some(unit)
+    }
+
+    // The quoted text whose opening mark is the first letter.
+    fn quoted(&mut self, heap: Global) -> Result<UnitText, Stop> {
+        let open = self.place();
+        let _mark = self.next();
+        let mut text = UnitText::new(heap);
+        loop {
+            let at = self.place();
+            match self.next().ok_or(Stop::At(Mistake::TextNotClosed, open))? {
+                '"' => return Ok(text),
+                '\\' => {
+                    let escape = self.escape().ok_or(Stop::At(Mistake::BadEscape, at))?;
+                    text.push_unit(escape)?;
+                }
+                letter => text.push_char(letter)?,
+            }
         }
-        at = quoted_part(&mut text, line, at)?;
     }
-    Err(Stop::At(Mistake::TextNotClosed, open))
-}
 
-// The field that begins at `at`, with a blank or the end of the line after it.
-pub fn field_at(heap: Global, line: &[char], at: usize) -> Result<Field, Stop>
-    requires { at < length line.now }
-    ensures { IfOk result (λ f. Read (length line.now) f) }
-{
-    let read = if line[at] == '"' {
-        quoted(heap, line, at)?
-    } else {
-        bare_word(heap, line, at)?
-    };
-    let next = read.next;
-    if next < line.len() && !is_blank(line[next]) {
-        return Err(Stop::At(Mistake::NoBlankAfterField, next));
+    // The field that begins here, with a blank or the end of the line after it.
+    pub fn field(&mut self, heap: Global) -> Result<Field, Stop> {
+        let at = self.place();
+        let text = if self.first() == Some('"') {
+            self.quoted(heap)?
+        } else {
+            spell(heap, self.run(is_bare))?
+        };
+        if self.first().is_some_and(|c| !is_blank(c)) {
+            return Err(Stop::At(Mistake::NoBlankAfterField, self.place()));
+        }
+        if text.bytes().len() > 510 {
+            return Err(Stop::At(Mistake::TextTooLong, at));
+        }
+        if !is_well_formed(text.bytes()) {
+            return Err(Stop::At(Mistake::IllFormedText, at));
+        }
+        Ok(Field { text, at })
     }
-    if read.text.len() > 510 {
-        return Err(Stop::At(Mistake::TextTooLong, at));
+
+    // The field behind the blanks here, if the line has one.
+    pub fn next_field(&mut self, heap: Global, missing: Mistake) -> Result<Field, Stop> {
+        self.skip_blanks();
+        if self.rest.is_empty() {
+            return Err(Stop::At(missing, self.place()));
+        }
+        self.field(heap)
     }
-    if !is_well_formed(read.text.as_slice()) {
-        return Err(Stop::At(Mistake::IllFormedText, at));
-    }
-    Ok(read)
 }

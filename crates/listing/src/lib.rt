@@ -10,6 +10,7 @@ mod mistakes;
 mod numbers;
 #[cfg(test)]
 mod tests;
+mod texts;
 
 pub use letters::is_blank;
 pub use lists::{ClaimsList, read};

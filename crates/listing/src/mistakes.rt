@@ -1,8 +1,9 @@
 // What can be wrong with a line of a claims list, and where.
-ghost use Rattle.std.specs.Prelude.{◌≡◌};
+ghost use Rattle.std.specs.Prelude.{◌≡◌, ◌++◌, codes, decimal, Some};
 ghost use Rattle.listing.specs.Words.{words_of};
 
 use std::alloc::{AllocError, AllocFailed};
+use std::fmt;
 
 #[derive(Clone, Copy, PartialEq, Eq, Debug)]
 pub enum Mistake {
@@ -78,6 +79,40 @@ impl Mistake {
             Mistake::MoreAfterValue => "something stands after the value",
             Mistake::TooManyClaims => "more than 256 claims",
             Mistake::TextsTooLarge => "the texts are more than a packet carries",
+        }
+    }
+}
+
+impl fmt::Display for Mistake {
+    ghost output = { λ m. Some (words_of m) };
+
+    fn fmt<W: fmt::Write>(&self, f: &mut fmt::Formatter<W>) -> fmt::Result {
+        f.pad(self.words())
+    }
+}
+
+// As a compiler tells a place: line, column, and what is wrong there.
+impl fmt::Display for Misplaced {
+    ghost output = { λ m. Some (decimal m.line ++ (codes ":" ++ (decimal m.column ++ (codes ": " ++ words_of m.mistake)))) };
+
+    fn fmt<W: fmt::Write>(&self, f: &mut fmt::Formatter<W>) -> fmt::Result {
+        let line = self.line;
+        let column = self.column;
+        let mistake = self.mistake;
+        write!(f, "{line}:{column}: {mistake}")
+    }
+}
+
+impl Stop {
+    // The error of a list whose line of a number from 0 was not read.
+    pub fn on_line(self, line: usize) -> ListError {
+        match self {
+            Stop::Memory => ListError::Memory,
+            Stop::At(mistake, at) => ListError::Line(Misplaced {
+                mistake,
+                line: line.saturating_add(1),
+                column: at.saturating_add(1),
+            }),
         }
     }
 }

@@ -1,36 +1,36 @@
-use Rattle.std.proofs.Common.{◌+◌, ◌-◌, ◌*◌, ◌<◌, drop, sym, refl, ap, ◌∙◌, arith}
-use Rattle.std.proofs.lemmas.List.{drop_all}
+use Rattle.std.proofs.Common.{◌∙◌, sym, ap, arith}
 use Rattle.units.specs.Units.{units}
-use Rattle.listing.specs.Numbers.{digits, decimal}
-use Rattle.listing.proofs.Digits.{digit_at, decimal_grows, decimal_more}
+use Rattle.listing.specs.Numbers.{decimal}
+use Rattle.listing.proofs.Digits.{none_iff, too_large, digit_of, decimal_next}
 use Rattle.listing.proofs.numbers.value_of_digits.Goals as goal
 
 pub overflow_sub-unit : goal.overflow_sub-unit
-overflow_sub-unit c = let d = digit_at (units c.args.text.now) c.loop-i.i c.unit.result (omega arith) c.unit.ensures c.loop-i.invariant.1 in omega arith
+overflow_sub-unit c = let d = digit_of c.in-Some.unit _ _ c.in-Some.ensures.steps c.loop-unit.invariant.1 in omega arith
 
-pub returns-then-n-digit : goal.returns-then-n-digit
-returns-then-n-digit c =
-    λ h.
-    let us = units c.args.text.now in
-    let d = c.from-digit.ensures in
-    let e = decimal_more us c.loop-i.i c.loop-i.n c.unit.result (omega arith) c.unit.ensures in
-    let g = decimal_grows (10 * c.loop-i.n + (c.unit.result - 48)) (drop (c.loop-i.i + 1) us) in
-    let k = c.loop-i.invariant.2 in
-    omega arith
+pub returns-in_err-checked_mul : goal.returns-in_err-checked_mul
+returns-in_err-checked_mul c =
+    let m = c.in_err-checked_mul.ensures in
+    none_iff _ c.from_residual.ensures
+    (too_large c.loop-unit.n c.in-Some.unit _ _ (units c.args.text.now) c.in-Some.ensures.steps c.loop-unit.invariant.2 (omega arith))
 
-pub loop-i-preserved : goal.loop-i-preserved
-loop-i-preserved c =
-    let us = units c.args.text.now in (
-      omega arith,
-      (digit_at us c.loop-i.i c.unit.result (omega arith) c.unit.ensures c.loop-i.invariant.1).2,
-      ap (λ d. decimal (10 * c.loop-i.n + d) (drop (c.loop-i.i + 1) us)) c.from-digit.ensures
-          ∙ sym (decimal_more us c.loop-i.i c.loop-i.n c.unit.result (omega arith) c.unit.ensures)
-          ∙ c.loop-i.invariant.2,
-    )
+pub returns-in_err-n : goal.returns-in_err-n
+returns-in_err-n c =
+    let m = c.in_err-n.ensures in
+    let k = c.in_ok-checked_mul.ensures in
+    let f = c.from.ensures in
+    none_iff _ c.from_residual-in_err-n.ensures
+    (too_large c.loop-unit.n c.in-Some.unit _ _ (units c.args.text.now) c.in-Some.ensures.steps c.loop-unit.invariant.2 (omega arith))
+
+pub loop-unit-preserved : goal.loop-unit-preserved
+loop-unit-preserved c =
+    let d = digit_of c.in-Some.unit _ _ c.in-Some.ensures.steps c.loop-unit.invariant.1 in
+    let k = c.in_ok-checked_mul.ensures in
+    let e = c.in_ok-n.ensures in
+    let f = c.from.ensures in
+    (omega arith, d.2, decimal_next c.loop-unit.n c.in-Some.unit c.in_ok-n.n _ _ c.in-Some.ensures.steps (omega arith) ∙ c.loop-unit.invariant.2)
 
 pub returns : goal.returns
 returns c =
-    let us = units c.args.text.now in
-    let e = sym (ap (decimal c.loop-i.n) (drop_all c.loop-i.i us (omega arith))) ∙ c.loop-i.invariant.2 in
-    let k = c.loop-i.invariant.0 in
-    (omega arith, e)
+    let e = ap (decimal c.loop-unit.n) c.in-None.ensures.steps.0 in
+    let i = c.loop-unit.invariant in
+    (omega arith, sym e ∙ i.2)

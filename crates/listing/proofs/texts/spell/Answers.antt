@@ -3,7 +3,7 @@ use Rattle.std.proofs.lemmas.List.{take_all}
 use Rattle.units.specs.Units.{unit_bytes}
 use Rattle.listing.specs.Letters.{spelling}
 use Rattle.listing.proofs.Spelt.{spelling_more}
-use Rattle.listing.proofs.letters.spell.Goals as goal
+use Rattle.listing.proofs.texts.spell.Goals as goal
 
 pub loop-c-preserved : goal.loop-c-preserved
 loop-c-preserved c = spelling_more c.args.letters.now c.loop-c.c-index c.c-item.result _ _ (omega arith) c.c-item.is c.loop-c.invariant c.in_ok-push_char.ensures
