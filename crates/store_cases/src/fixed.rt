@@ -1,16 +1,15 @@
-// A store that needs no buffer: eight records in an array, the first of which stays.
-ghost use Rattle.std.specs.Prelude.{◌≡◌, ◌≤◌, length};
+// A store that needs no buffer: at most eight records, the first of which stays.
+ghost use Rattle.std.specs.Prelude.{◌≤◌};
+ghost use Rattle.arrayvec.specs.ArrayVec.{array_vec_len};
 
+use arrayvec::ArrayVec;
 use claims::Claim;
 
 pub mod calls;
 
-// The first `len` slots are its list.
 #[derive(Drop)]
 pub struct Fixed {
-    slots: [Claim; 8],
-    len: usize,
-    ghost wide: { length slots ≡ 8 },
-    ghost some: { 1 ≤ len },
-    ghost fits: { len ≤ 8 },
+    held: ArrayVec<Claim, 8>,
+    ghost some: { 1 ≤ array_vec_len held },
+    ghost fits: { array_vec_len held ≤ 8 },
 }

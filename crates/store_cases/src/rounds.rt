@@ -1,7 +1,8 @@
 // Every kind of store under the same call, and every kind of source under an overlay.
 use super::Fixed;
-use super::shown::{at, granted, numbered};
-use claims::{Claim, One, Source, Value};
+use super::shown::{granted, numbered, refused};
+use claims::{Claim, One, Source};
+use faults::{Cause, Fault};
 use packet::check as checked_packet;
 use store::{Lent, Overlay, Store, Table, append_read_cut};
 
@@ -11,17 +12,10 @@ struct Keeper<S: Store> {
     store: S,
 }
 
-// The value read back, or the number of the refusal and 1000.
-fn round<S: Store + Drop>(store: S) -> u64 {
+// What a claim put to the store is read back as.
+fn round<S: Store + Drop>(store: S) -> Result<Option<Claim>, Fault> {
     let mut k = Keeper { store };
-    match append_read_cut(&mut k.store, numbered(7)) {
-        Ok(Some(claim)) => match claim.value {
-            Value::Uint64(v) => v,
-            _ => 0,
-        },
-        Ok(None) => 0,
-        Err(fault) => 1000 + u64::from(fault.cause.number()),
-    }
+    append_read_cut(&mut k.store, numbered(7))
 }
 
 #[test]
@@ -30,16 +24,19 @@ fn over_a_packet_and_one_claim(rt: HostRuntime) {
     let checked = checked_packet(bytes);
     let o = Overlay::over(checked.packet);
     assert_eq!(rt; o.floor(), 1);
-    assert_eq!(rt; round(o), 7);
-    assert_eq!(rt; round(Overlay::over(One::new(numbered(1)))), 7);
+    assert_eq!(rt; round(o), Ok(Some(numbered(7))));
+    assert_eq!(rt;
+        round(Overlay::over(One::new(numbered(1)))),
+        Ok(Some(numbered(7)))
+    );
 }
 
 #[test]
 fn a_table_with_room_and_one_without(rt: HostRuntime) {
     let mut buffer = [numbered(1000); 4];
-    assert_eq!(rt; round(Table::new(&mut buffer)), 7);
+    assert_eq!(rt; round(Table::new(&mut buffer)), Ok(Some(numbered(7))));
     let mut none: [Claim; 0] = [];
-    assert_eq!(rt; round(Table::new(&mut none)), 1091);
+    assert_eq!(rt; round(Table::new(&mut none)), refused(Cause::StoreFull));
 }
 
 #[test]
@@ -51,16 +48,16 @@ fn an_overlay_on_an_overlay_on_a_table(rt: HostRuntime) {
     assert_eq!(rt; granted(&mut o), 128);
     let top = Overlay::over(o);
     assert_eq!(rt; top.floor(), 132);
-    assert_eq!(rt; at(&top, 131), Some(127));
-    assert_eq!(rt; round(top), 7);
+    assert_eq!(rt; top.claim_at(131), Some(numbered(127)));
+    assert_eq!(rt; round(top), Ok(Some(numbered(7))));
 }
 
 #[test]
 fn a_store_of_another_crate(rt: HostRuntime) {
     let mut f = Fixed::new(numbered(3));
     assert_eq!(rt; granted(&mut f), 7);
-    assert_eq!(rt; round(Overlay::over(Lent::new(&f))), 7);
+    assert_eq!(rt; round(Overlay::over(Lent::new(&f))), Ok(Some(numbered(7))));
     assert_eq!(rt; f.count(), 8);
-    assert_eq!(rt; round(f), 1091);
-    assert_eq!(rt; round(Fixed::new(numbered(3))), 7);
+    assert_eq!(rt; round(f), refused(Cause::StoreFull));
+    assert_eq!(rt; round(Fixed::new(numbered(3))), Ok(Some(numbered(7))));
 }

@@ -1,15 +1,16 @@
 // The boundaries of a table: the records of its buffer, where it is full, where a cut is refused.
-use super::shown::{at, granted, number, numbered};
+use super::shown::{granted, numbered, refused};
 use claims::{Claim, Source, Value};
+use faults::Cause;
 use store::{Store, Table};
 
 #[test]
 fn an_empty_buffer(rt: HostRuntime) {
     let mut buffer: [Claim; 0] = [];
     let mut t = Table::new(&mut buffer);
-    assert_eq!(rt; number(t.append(numbered(1))), 91);
-    assert_eq!(rt; number(t.cut(0)), 0);
-    assert_eq!(rt; number(t.cut(1)), 92);
+    assert_eq!(rt; t.append(numbered(1)), refused(Cause::StoreFull));
+    assert_eq!(rt; t.cut(0), Ok(()));
+    assert_eq!(rt; t.cut(1), refused(Cause::CutOutside));
     assert_eq!(rt; t.count(), 0);
 }
 
@@ -39,20 +40,20 @@ fn made_empty_over_a_used_buffer(rt: HostRuntime) {
     let t = Table::new(&mut buffer);
     assert_eq!(rt; t.count(), 0);
     assert_eq!(rt; t.floor(), 0);
-    assert_eq!(rt; at(&t, 0), None);
+    assert_eq!(rt; t.claim_at(0), None);
 }
 
 #[test]
 fn full_is_left_as_it_was(rt: HostRuntime) {
     let mut buffer = [numbered(1000); 2];
     let mut t = Table::new(&mut buffer);
-    assert_eq!(rt; number(t.append(numbered(1))), 0);
-    assert_eq!(rt; number(t.append(numbered(2))), 0);
-    assert_eq!(rt; number(t.append(numbered(3))), 91);
+    assert_eq!(rt; t.append(numbered(1)), Ok(()));
+    assert_eq!(rt; t.append(numbered(2)), Ok(()));
+    assert_eq!(rt; t.append(numbered(3)), refused(Cause::StoreFull));
     assert_eq!(rt; t.count(), 2);
-    assert_eq!(rt; at(&t, 0), Some(1));
-    assert_eq!(rt; at(&t, 1), Some(2));
-    assert_eq!(rt; at(&t, 2), None);
+    assert_eq!(rt; t.claim_at(0), Some(numbered(1)));
+    assert_eq!(rt; t.claim_at(1), Some(numbered(2)));
+    assert_eq!(rt; t.claim_at(2), None);
 }
 
 #[test]
@@ -60,14 +61,14 @@ fn cuts(rt: HostRuntime) {
     let mut buffer = [numbered(1000); 4];
     let mut t = Table::new(&mut buffer);
     assert_eq!(rt; granted(&mut t), 4);
-    assert_eq!(rt; number(t.cut(5)), 92);
-    assert_eq!(rt; number(t.cut(4)), 0);
-    assert_eq!(rt; number(t.cut(1)), 0);
+    assert_eq!(rt; t.cut(5), refused(Cause::CutOutside));
+    assert_eq!(rt; t.cut(4), Ok(()));
+    assert_eq!(rt; t.cut(1), Ok(()));
     assert_eq!(rt; t.count(), 1);
-    assert_eq!(rt; at(&t, 1), None);
-    assert_eq!(rt; number(t.cut(2)), 92);
-    assert_eq!(rt; number(t.append(numbered(9))), 0);
-    assert_eq!(rt; at(&t, 1), Some(9));
-    assert_eq!(rt; number(t.cut(0)), 0);
+    assert_eq!(rt; t.claim_at(1), None);
+    assert_eq!(rt; t.cut(2), refused(Cause::CutOutside));
+    assert_eq!(rt; t.append(numbered(9)), Ok(()));
+    assert_eq!(rt; t.claim_at(1), Some(numbered(9)));
+    assert_eq!(rt; t.cut(0), Ok(()));
     assert_eq!(rt; t.count(), 0);
 }

@@ -3,6 +3,7 @@ ghost use Rattle.std.specs.Prelude.{◌≡◌, [], ◌∷◌};
 ghost use Rattle.store_cases.specs.Fixeds.{list_of};
 
 use super::Fixed;
+use arrayvec::ArrayVec;
 use claims::{Claim, Source};
 use faults::{Cause, Fault};
 use store::Store;
@@ -12,10 +13,9 @@ impl Fixed {
     pub fn new(claim: Claim) -> Fixed
         ensures { list_of result ≡ claim ∷ [] }
     {
-        Fixed {
-            slots: [claim; 8],
-            len: 1,
-        }
+        let mut held = ArrayVec::new();
+        held.push(claim);
+        Fixed { held }
     }
 }
 
@@ -23,15 +23,11 @@ impl Source for Fixed {
     ghost list = { λ f. list_of f };
 
     fn count(&self) -> usize {
-        self.len
+        self.held.len()
     }
 
     fn claim_at(&self, n: usize) -> Option<Claim> {
-        if n < self.len {
-            Some(self.slots[n])
-        } else {
-            None
-        }
+        self.held.as_slice().get(n).copied()
     }
 }
 
@@ -45,20 +41,18 @@ impl Store for Fixed {
     }
 
     fn append(&mut self, claim: Claim) -> Result<(), Fault> {
-        let at = self.len;
-        if at >= 8 {
+        if self.held.is_full() {
             return Err(Fault::at(Cause::StoreFull, 0));
         }
-        self.slots[at] = claim;
-        self.len = at + 1;
+        self.held.push(claim);
         Ok(())
     }
 
     fn cut(&mut self, n: usize) -> Result<(), Fault> {
-        if n < 1 || n > self.len {
+        if n < 1 || n > self.held.len() {
             return Err(Fault::at(Cause::CutOutside, 0));
         }
-        self.len = n;
+        self.held.truncate(n);
         Ok(())
     }
 }
