@@ -8,10 +8,8 @@ use Rattle.automaton.specs.Language.{empty, one, either, followed, plus, opt, st
 use Rattle.automaton.specs.Places.{first, last, size, links, atoms_of}
 use Rattle.pattern.specs.Signs.{begins}
 use Rattle.pattern.specs.Grammar.{Kind, choice, sequence, item, atom, Spells, one_way, or_way, nothing, and_then, once, starred, plussed, queried, bracketed}
-use Rattle.pattern.specs.Parts.{Either, Both, Moved, Single, Grown}
+use Rattle.pattern.specs.Parts.{Piece, Table, Either, Both, Moved, Single, Grown}
 use Rattle.pattern.specs.Reading.{Got}
-use Rattle.pattern.specs.declared.reader.Part.{Part}
-use Rattle.pattern.specs.declared.reader.Table.{Table}
 use Rattle.pattern.proofs.Grow.{grown_none, grown_more}
 
 starts : (c : ℕ) (s : List ℕ) → begins c s ≡ true → (r : List ℕ) × (s ≡ c ∷ r)
@@ -34,7 +32,7 @@ stood_within us i c h =
     let l = sym (length-drop i us) ∙ ap length r.1 in
     omega arith
 
-abbrev pub got_empty : (us : List ℕ) (d at n : ℕ) (t : Table) (p : Part) → n ≤ 60 → p.at ≡ at → p.next ≡ n → p.first ≡ 0 → p.last ≡ 0 → p.null ≡ true → Got sequence us d at n t t p
+abbrev pub got_empty : (us : List ℕ) (d at n : ℕ) (t : Table) (p : Piece) → n ≤ 60 → p.at ≡ at → p.next ≡ n → p.first ≡ 0 → p.last ≡ 0 → p.null ≡ true → Got sequence us d at n t t p
 got_empty us d at n t p few a b f l z = record {
   tree = empty;
   text = [];
@@ -49,13 +47,13 @@ got_empty us d at n t p few a b f l z = record {
   leads = grown_none t.follow t.follow refl;
 }
 
-abbrev pub got_way : {us : List ℕ} {d at n : ℕ} {f g : Table} {p : Part} → Got sequence us d at n f g p → Got choice us d at n f g p
+abbrev pub got_way : {us : List ℕ} {d at n : ℕ} {f g : Table} {p : Piece} → Got sequence us d at n f g p → Got choice us d at n f g p
 got_way x = record { tree = x.tree; text = x.text; split = x.split; spelt = one_way x.spelt; begins = x.begins; ends = x.ends; nulls = x.nulls; counts = x.counts; few = x.few; takes = x.takes; leads = x.leads }
 
-abbrev pub got_once : {us : List ℕ} {d at n : ℕ} {f g : Table} {p : Part} → Got atom us d at n f g p → Got item us d at n f g p
+abbrev pub got_once : {us : List ℕ} {d at n : ℕ} {f g : Table} {p : Piece} → Got atom us d at n f g p → Got item us d at n f g p
 got_once x = record { tree = x.tree; text = x.text; split = x.split; spelt = once x.spelt; begins = x.begins; ends = x.ends; nulls = x.nulls; counts = x.counts; few = x.few; takes = x.takes; leads = x.leads }
 
-module _ {us : List ℕ} {d at n : ℕ} {f g k : Table} {a b : Part} where
+module _ {us : List ℕ} {d at n : ℕ} {f g k : Table} {a b : Piece} where
   -- what was read behind x has its places numbered from x's end
   pub atoms_more : {K L : Kind} {i : ℕ} (x : Got K us d at n f g a) (y : Got L us d i a.next g k b) → take b.next k.atoms ≡ take n f.atoms ++ (atoms_of x.tree ++ atoms_of y.tree)
   atoms_more x y = y.takes ∙ ap (λ z. z ++ atoms_of y.tree) x.takes ∙ append_assoc (take n f.atoms) (atoms_of x.tree) (atoms_of y.tree)
@@ -63,7 +61,7 @@ module _ {us : List ℕ} {d at n : ℕ} {f g k : Table} {a b : Part} where
   pub leads_more : {K L : Kind} {i : ℕ} (x : Got K us d at n f g a) (y : Got L us d i a.next g k b) → Grown f.follow k.follow (links x.tree n ++ links y.tree (n + size x.tree))
   leads_more x y = grown_more f.follow g.follow k.follow _ _ x.leads (subst (λ m. Grown g.follow k.follow (links y.tree m)) x.counts y.leads)
 
-  abbrev pub got_either : {r : Part} (x : Got choice us d at n f g a) → begins 124 (drop a.at us) ≡ true → (y : Got sequence us d (a.at + 1) a.next g k b) → Either a b r → Got choice us d at n f k r
+  abbrev pub got_either : {r : Piece} (x : Got choice us d at n f g a) → begins 124 (drop a.at us) ≡ true → (y : Got sequence us d (a.at + 1) a.next g k b) → Either a b r → Got choice us d at n f k r
   got_either {r} x e y j = record {
     tree = either x.tree y.tree;
     text = x.text ++ (124 ∷ y.text);
@@ -81,7 +79,7 @@ module _ {us : List ℕ} {d at n : ℕ} {f g k : Table} {a b : Part} where
     leads = leads_more x y;
   }
 
-  abbrev pub got_both : {l : Table} {r : Part} (x : Got sequence us d at n f g a) (y : Got item us d a.at a.next g k b) → l.atoms ≡ k.atoms → Grown k.follow l.follow ((a.last, b.first) ∷ []) → Both a b r → Got sequence us d at n f l r
+  abbrev pub got_both : {l : Table} {r : Piece} (x : Got sequence us d at n f g a) (y : Got item us d a.at a.next g k b) → l.atoms ≡ k.atoms → Grown k.follow l.follow ((a.last, b.first) ∷ []) → Both a b r → Got sequence us d at n f l r
   got_both {l} {r} x y same grow j = record {
     tree = followed x.tree y.tree;
     text = x.text ++ y.text;
@@ -104,11 +102,11 @@ module _ {us : List ℕ} {d at n : ℕ} {f g k : Table} {a b : Part} where
   }
 
 -- an atom and the unit c behind it
-pub split_on : {us : List ℕ} {d at n : ℕ} {f g : Table} {a r : Part} {b : Bool} (c : ℕ) (x : Got atom us d at n f g a) → begins c (drop a.at us) ≡ true → Moved a b r → drop at us ≡ (x.text ++ (c ∷ [])) ++ drop r.at us
+pub split_on : {us : List ℕ} {d at n : ℕ} {f g : Table} {a r : Piece} {b : Bool} (c : ℕ) (x : Got atom us d at n f g a) → begins c (drop a.at us) ≡ true → Moved a b r → drop at us ≡ (x.text ++ (c ∷ [])) ++ drop r.at us
 split_on {us} {d} {at} {n} {f} {g} {a} {r} c x e j =
     x.split ∙ ap (λ z. x.text ++ z) (stood us a.at c e ∙ ap (λ z. c ∷ drop z us) (sym j.stays)) ∙ sym (append_assoc x.text (c ∷ []) (drop r.at us))
 
-module _ {us : List ℕ} {d at n : ℕ} {f g : Table} {a r : Part} {b : Bool} (x : Got atom us d at n f g a) (j : Moved a b r) where
+module _ {us : List ℕ} {d at n : ℕ} {f g : Table} {a r : Piece} {b : Bool} (x : Got atom us d at n f g a) (j : Moved a b r) where
   pub same_count : r.next ≡ n + size x.tree
   same_count = j.counts ∙ x.counts
 
@@ -168,7 +166,7 @@ module _ {us : List ℕ} {d at n : ℕ} {f g : Table} {a r : Part} {b : Bool} (x
     leads = x.leads;
   }
 
-abbrev pub got_group : {us : List ℕ} {d at n : ℕ} {f g : Table} {p r : Part} {b : Bool} → begins 40 (drop at us) ≡ true → (x : Got choice us d (at + 1) n f g p) → begins 41 (drop p.at us) ≡ true → Moved p b r → b ≡ p.null → Got atom us (suc d) at n f g r
+abbrev pub got_group : {us : List ℕ} {d at n : ℕ} {f g : Table} {p r : Piece} {b : Bool} → begins 40 (drop at us) ≡ true → (x : Got choice us d (at + 1) n f g p) → begins 41 (drop p.at us) ≡ true → Moved p b r → b ≡ p.null → Got atom us (suc d) at n f g r
 got_group {us} {d} {at} {n} {f} {g} {p} {r} e x e' j h = record {
   tree = x.tree;
   text = 40 ∷ (x.text ++ (41 ∷ []));
@@ -186,7 +184,7 @@ got_group {us} {d} {at} {n} {f} {g} {p} {r} e x e' j h = record {
 }
 
 -- an atom for one unit, whose spelling is known
-abbrev pub got_single : {us : List ℕ} {d at n : ℕ} {f g : Table} {r : Part} (a : Atom) (u : List ℕ) → Spells d atom (one a) u → drop at us ≡ u ++ drop (at + length u) us → n < 60 → take (n + 1) g.atoms ≡ take n f.atoms ++ a ∷ [] → g.follow ≡ f.follow → Single at (length u) n r → Got atom us d at n f g r
+abbrev pub got_single : {us : List ℕ} {d at n : ℕ} {f g : Table} {r : Piece} (a : Atom) (u : List ℕ) → Spells d atom (one a) u → drop at us ≡ u ++ drop (at + length u) us → n < 60 → take (n + 1) g.atoms ≡ take n f.atoms ++ a ∷ [] → g.follow ≡ f.follow → Single at (length u) n r → Got atom us d at n f g r
 got_single {us} {d} {at} {n} {f} {g} {r} a u x e few put same j = record {
   tree = one a;
   text = u;

@@ -5,8 +5,9 @@ use Rattle.std.proofs.lemmas.Bool.{eqb-true, or_cases, or_parts, cases_Bool, cas
 use Rattle.automaton.specs.Language.{Tree, empty, one, either, followed}
 use Rattle.pattern.specs.Signs.{special}
 use Rattle.pattern.specs.Grammar.{Kind, choice, sequence, item, atom, Spells, one_way, or_way, nothing, and_then, once, starred, plussed, queried, dot, unit, escaped, bracketed, closing}
-use Rattle.pattern.specs.Formed.{class_of, free, after, done, formed}
+use Rattle.pattern.specs.Formed.{class_of, pass, free, after, done, formed}
 use Rattle.pattern.specs.declared.scan.State.{State}
+use Rattle.pattern.specs.declared.scan.Pass.{Pass}
 use Rattle.pattern.specs.declared.scan.State.TheVariants.{Fresh, Behind, Escaped, Closed}
 use Rattle.pattern.specs.declared.scan.Class.{Class}
 use Rattle.pattern.specs.declared.scan.Class.TheVariants.{Opens, Closes, Parts, Escapes, Repeats, Ends, Strays, Takes}
@@ -61,7 +62,7 @@ passes (plussed u q x) d v h = subst (λ z. formed Fresh d z ≡ true) (sym (ap 
 passes (queried u q x) d v h = subst (λ z. formed Fresh d z ≡ true) (sym (ap (λ z. z ++ v) q ∙ append_assoc u (63 ∷ []) v)) (passes x d (63 ∷ v) h)
 passes dot d v h = h
 passes (unit c e) d v h = ap (λ z. On (free false d z) v) (plain_takes c e) ∙ h
-passes (escaped c e) d v h = ap (λ b. On (cond b (Some (Behind, d)) None) v) e ∙ h
+passes (escaped c e) d v h = ap (λ b. On (cond b (Some (pass Behind d)) None) v) e ∙ h
 passes (bracketed u q x) d v h =
     subst (λ z. formed Fresh d z ≡ true) (sym (ap (λ z. z ++ v) q ∙ ap (λ z. 40 ∷ z) (append_assoc u (41 ∷ []) v))) (passes x (suc d) (41 ∷ v) h)
 
@@ -231,11 +232,11 @@ repeat u k v c d a w x =
     ])
 
 -- what a unit of each class makes of what follows
-abbrev Follows : Option (State × ℕ) → List ℕ → Type 0
+abbrev Follows : Option Pass → List ℕ → Type 0
 Follows None us = ⊥
-Follows (Some p) us = Meant p.0 p.1 us
+Follows (Some p) us = Meant p.state p.depth us
 
-ended : (d u : ℕ) (us : List ℕ) (t : Bool) → eqb d 0 ≡ t → u ≡ 36 → Follows (cond t (Some (Closed, 0)) None) us → Rest SomeChoice d (u ∷ us)
+ended : (d u : ℕ) (us : List ℕ) (t : Bool) → eqb d 0 ≡ t → u ≡ 36 → Follows (cond t (Some (pass Closed 0)) None) us → Rest SomeChoice d (u ∷ us)
 ended d u us true z e f = subst (λ i. Rest SomeChoice i (u ∷ us)) (sym (eqb-true d 0 z)) ([], true, (λ i. e i ∷ f i), no_choice)
 ended d u us false z e f = absurd f
 
@@ -261,7 +262,7 @@ behind_unit d u us Ends e f = prefix SomeChoice Going [] choice_going d (u ∷ u
 behind_unit d u us Strays e f = absurd f
 behind_unit d u us Takes e f = prefix SomeChoice Going [] choice_going d (u ∷ us) (fresh_unit d u us Takes e f)
 
-escaped_unit : (d u : ℕ) (us : List ℕ) (b : Bool) → special u ≡ b → Follows (cond b (Some (Behind, d)) None) us → Meant Escaped d (u ∷ us)
+escaped_unit : (d u : ℕ) (us : List ℕ) (b : Bool) → special u ≡ b → Follows (cond b (Some (pass Behind d)) None) us → Meant Escaped d (u ∷ us)
 escaped_unit d u us true h f = (u, us, refl, h, f)
 escaped_unit d u us false h f = absurd f
 
@@ -277,9 +278,9 @@ finish Behind d h = subst (λ z. Rest Going z []) (sym (eqb-true d 0 h)) ([], fa
 finish Escaped d h = absurd (false≢true h)
 finish Closed d h = refl
 
-follow : (o : Option (State × ℕ)) (us : List ℕ) → ((s : State) (e : ℕ) → formed s e us ≡ true → Meant s e us) → On o us ≡ true → Follows o us
+follow : (o : Option Pass) (us : List ℕ) → ((s : State) (e : ℕ) → formed s e us ≡ true → Meant s e us) → On o us ≡ true → Follows o us
 follow None us f h = absurd (false≢true h)
-follow (Some p) us f h = f p.0 p.1 h
+follow (Some p) us f h = f p.state p.depth h
 
 pub means : (us : List ℕ) (state : State) (d : ℕ) → formed state d us ≡ true → Meant state d us
 means [] state d h = finish state d h

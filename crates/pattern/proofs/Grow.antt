@@ -2,9 +2,13 @@
 use Rattle.std.proofs.Common.{◌≡◌, ℕ, ◌+◌, ◌<◌, ◌≤◌, Bool, true, false, cond, ◌≢◌, ◌⊎◌, List, [], ◌∷◌, ◌++◌, length, get_or, set, sym, refl, ap, ◌∙◌, subst, inl, inr, arith}
 use mathlib.Core.Bool.{false≢true}
 use lib.Bits.{bit_or}
-use Rattle.std.proofs.lemmas.List.{get_or-set_same, get_or-set_other}
+use Rattle.std.proofs.lemmas.List.{get_or-set_same, get_or-set_other, map-set}
+use Rattle.std.proofs.Math.ListN.{get_or-map}
 use Rattle.std.proofs.lemmas.Bool.{cases_order}
-use Rattle.automaton.specs.Places.{bit, Has, Link}
+use Rattle.automaton.specs.declared.Atom.{Atom}
+use Rattle.automaton.specs.declared.Place.{Place}
+use Rattle.automaton.specs.Places.{bit, Has, Link, follows}
+use Rattle.automaton.proofs.Used.{blank}
 use Rattle.automaton.proofs.Holds.{has_split, has_left, has_right, linked_left, linked_right, linked_split}
 use Rattle.pattern.specs.Parts.{Grown}
 
@@ -70,3 +74,9 @@ grown_one from to before after n le s p q lt =
       λ h. elim (split_to (bit from p) (get_or before p 0) to q (subst (λ z. Has z q) e h)) [ inl i ↦ inl i | inr i ↦ inr (inl i) ],
       λ h. subst (λ z. Has z q) (sym e) (join_to (bit from p) (get_or before p 0) to q (elim h [ inl i ↦ inl i | inr i ↦ elim i [ inl j ↦ inr j | inr j ↦ absurd j ] ])),
     )
+
+-- a link added at one place
+pub follows_set : (ps : List Place) (p to : ℕ) (a : Atom) → follows (set ps p (record { atom = a; follow = bit_or (get_or ps p blank).follow to })) ≡ set (follows ps) p (bit_or (get_or (follows ps) p 0) to)
+follows_set ps p to a =
+    map-set (λ (q : Place). q.follow) ps p _
+    ∙ ap (λ z. set (follows ps) p (bit_or z to)) (sym (get_or-map (λ (q : Place). q.follow) ps p blank))

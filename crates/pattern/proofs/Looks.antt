@@ -1,10 +1,12 @@
 -- What stands at a place of a text, and what is left there.
-use Rattle.std.proofs.Common.{◌≡◌, ℕ, zero, suc, ◌+◌, ◌<◌, ◌≤◌, Bool, true, false, cond, eqb, List, [], ◌∷◌, length, drop, Some, None, sym, refl, ap, ◌∙◌, add-one, arith, eq-eqb, ne_eqb}
+use Rattle.std.proofs.Common.{◌≡◌, ℕ, zero, suc, ◌+◌, ◌-◌, ◌<◌, ◌≤◌, Bool, true, false, cond, eqb, nat_eq, List, [], ◌∷◌, length, take, drop, Some, None, Option, MatchOption, sym, refl, ap, ◌∙◌, add-one, arith, eq-eqb, ne_eqb}
+use Rattle.std.proofs.Math.Seq.{take-length}
 use Rattle.units.specs.Units.{units}
 use Rattle.units.proofs.Texts.{length-units}
 use Rattle.std.specs.List.{slice_get}
+use Rattle.std.specs.Option.{option_eq}
 use Rattle.automaton.specs.declared.Atom.TheVariants.{Plain}
-use Rattle.pattern.specs.Signs.{special, plainly, escaped, simple}
+use Rattle.pattern.specs.Signs.{special, begins, parting, stops, plainly, escaped, simple}
 
 pub nothing_left : (us : List ℕ) (i : ℕ) → None ≡ slice_get us i → drop i us ≡ []
 nothing_left [] zero e = refl
@@ -46,3 +48,20 @@ module _ (us : List ℕ) (i : ℕ) where
 
   pub simple_escaped : (u v : ℕ) → Some u ≡ slice_get us i → u ≡ 92 → Some v ≡ slice_get us (i + 1) → cond (special v) (Some (Plain v, 2)) None ≡ simple (drop i us)
   simple_escaped u v e is f = sym (at_unit u e true (eq-eqb u 92 is) ∙ ap escaped (unit_left us (i + 1) v f))
+
+-- a unit that was looked for, and the end of a sequence
+pub begins_at : (us : List ℕ) (i c : ℕ) → option_eq nat_eq (slice_get us i) (Some c) ≡ begins c (drop i us)
+begins_at [] zero c = refl
+begins_at [] (suc i) c = refl
+begins_at (u ∷ us) zero c = refl
+begins_at (u ∷ us) (suc i) c = begins_at us i c
+
+pub stops_at : (us : List ℕ) (i : ℕ) (o : Option ℕ) (r : Bool) → o ≡ slice_get us i → MatchOption o (r ≡ true) (λ u. r ≡ parting u) → r ≡ stops (drop i us)
+stops_at us i None r e h = h ∙ sym (ap stops (nothing_left us i e))
+stops_at us i (Some u) r e h = h ∙ sym (ap stops (unit_left us i u e))
+
+-- what stands behind an opening anchor
+pub behind_first : (bs : List ℕ) → 2 ≤ length bs → units (take (length bs - 2) (drop 2 bs)) ≡ drop 1 (units bs)
+behind_first [] le = absurd (omega arith)
+behind_first (h ∷ []) le = absurd (omega arith)
+behind_first (h ∷ l ∷ bs) le = let e : length (h ∷ l ∷ bs) - 2 ≡ length bs = omega arith in ap (λ n. units (take n bs)) e ∙ ap units (take-length bs)

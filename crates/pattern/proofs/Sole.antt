@@ -10,10 +10,8 @@ use Rattle.automaton.specs.Places.{size}
 use Rattle.pattern.specs.Signs.{special, begins, plainly, simple}
 use Rattle.pattern.specs.Signs.{escaped as escape_at}
 use Rattle.pattern.specs.Grammar.{choice, item, atom, Spells, once, starred, plussed, queried, dot, unit, escaped, bracketed}
-use Rattle.pattern.specs.Parts.{Moved, Single, Grown}
+use Rattle.pattern.specs.Parts.{Piece, Table, Moved, Single, Grown}
 use Rattle.pattern.specs.Reading.{repeats, Read, Refused}
-use Rattle.pattern.specs.declared.reader.Part.{Part}
-use Rattle.pattern.specs.declared.reader.Table.{Table}
 use Rattle.pattern.proofs.Onward.{no_eq}
 use Rattle.pattern.proofs.Build.{behind, stood_within, got_once, got_star, got_plus, got_opt, got_group, got_single}
 
@@ -77,7 +75,7 @@ item_refused us d at n ref t u v s e h few =
     let z = repeat_size w.repeat in
     ref w.tree w.front (w.mark ++ v) w.spelt (e ∙ ap (λ z. z ++ v) w.whole ∙ append_assoc w.front w.mark v) tt (omega arith)
 
-module _ {us : List ℕ} {d at n : ℕ} {f g : Table} {a : Part} (x : Read atom us d at n f g a) where
+module _ {us : List ℕ} {d at n : ℕ} {f g : Table} {a : Piece} (x : Read atom us d at n f g a) where
   abbrev Marked : Tree → List ℕ → List ℕ → Type 0
   Marked t u v = (m : List ℕ) × Repeat x.got.tree t m × (u ≡ x.got.text ++ m) × (drop a.at us ≡ m ++ v)
 
@@ -98,7 +96,7 @@ module _ {us : List ℕ} {d at n : ℕ} {f g : Table} {a : Part} (x : Read atom 
     inside = x.inside;
   }
 
-  module _ {r : Part} {b : Bool} (j : Moved a b r) where
+  module _ {r : Piece} {b : Bool} (j : Moved a b r) where
     on : (c : ℕ) → begins c (drop a.at us) ≡ true → (at ≤ r.at) × (r.at ≤ length us)
     on c e = let s = stood_within us a.at c e in (omega (arith, x.inside, j.stays), omega (arith, j.stays))
 
@@ -163,7 +161,7 @@ module _ (us : List ℕ) (at : ℕ) (here : begins 40 (drop at us) ≡ true) whe
       let k : w.depth ≡ d - 1 = omega arith in
       ref t w.inner (41 ∷ v) (subst (λ i. Spells i choice t w.inner) k w.spelt) (inside_of v e w) (refl, refl) few
 
-  pub group_open : {d n m : ℕ} {f g : Table} {p : Part} → Read choice us d (at + 1) n f g p → begins 41 (drop p.at us) ≡ false → Refused atom us m at n
+  pub group_open : {d n m : ℕ} {f g : Table} {p : Piece} → Read choice us d (at + 1) n f g p → begins 41 (drop p.at us) ≡ false → Refused atom us m at n
   group_open {d} {n} {m} {f} {g} {p} x no-close t u v s e h few =
       let w = group s v e in
       let e' = inside_of v e w in
@@ -171,7 +169,7 @@ module _ (us : List ℕ) (at : ℕ) (here : begins 40 (drop at us) ≡ true) whe
       let left = append_cancel_left x.got.text (drop p.at us) (41 ∷ v) (sym x.got.split ∙ e' ∙ ap (λ z. z ++ (41 ∷ v)) o.1) in
       false≢true (sym no-close ∙ ap (begins 41) left)
 
-  pub group_read : {d n : ℕ} {f g : Table} {p r : Part} {b : Bool} → (d ≡ 0 → ⊥) → Read choice us (d - 1) (at + 1) n f g p → begins 41 (drop p.at us) ≡ true → Moved p b r → b ≡ p.null → Read atom us d at n f g r
+  pub group_read : {d n : ℕ} {f g : Table} {p r : Piece} {b : Bool} → (d ≡ 0 → ⊥) → Read choice us (d - 1) (at + 1) n f g p → begins 41 (drop p.at us) ≡ true → Moved p b r → b ≡ p.null → Read atom us d at n f g r
   group_read {d} {n} {f} {g} {p} {r} nz x close j z =
       let k : suc (d - 1) ≡ d = omega arith in
       let c = stood_within us p.at 41 close in
@@ -258,7 +256,7 @@ module _ (us : List ℕ) (at : ℕ) (away : begins 40 (drop at us) ≡ false) wh
   pub simple_refused : (d n : ℕ) → None ≡ simple (drop at us) → Refused atom us d at n
   simple_refused d n gone t u v s e h few = let w = one_unit s v e in never (gone ∙ ap simple e ∙ w.found)
 
-  pub simple_read : {d n : ℕ} {f g : Table} {r : Part} (a : Atom) (k : ℕ) → at ≤ length us → n < 60 → Some (a, k) ≡ simple (drop at us) → take (n + 1) g.atoms ≡ take n f.atoms ++ a ∷ [] → g.follow ≡ f.follow → Single at k n r → Read atom us d at n f g r
+  pub simple_read : {d n : ℕ} {f g : Table} {r : Piece} (a : Atom) (k : ℕ) → at ≤ length us → n < 60 → Some (a, k) ≡ simple (drop at us) → take (n + 1) g.atoms ≡ take n f.atoms ++ a ∷ [] → g.follow ≡ f.follow → Single at k n r → Read atom us d at n f g r
   simple_read {d} {n} {f} {g} {r} a k le few is put same j =
       let w : Spelt d a k (drop at us) = spelt_of a k (drop at us) (sym is) in
       let left : drop (at + length w.text) us ≡ w.rest = sym (drop-drop (length w.text) at us) ∙ ap (drop (length w.text)) w.split ∙ drop_at w.text w.rest (length w.text) refl in

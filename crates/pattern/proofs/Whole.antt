@@ -9,12 +9,13 @@ use Rattle.automaton.proofs.Holds.{has_none}
 use Rattle.pattern.specs.Signs.{begins}
 use Rattle.pattern.specs.Grammar.{choice, Spells, opening, closing, Written}
 use Rattle.pattern.specs.Formed.{formed}
+use Rattle.pattern.specs.Parts.{Piece, piece, Table, table}
 use Rattle.pattern.specs.Reading.{Next, Read, Refused}
 use Rattle.pattern.specs.Judged.{WellFormed, WithinLimits, Accepted}
 use Rattle.pattern.specs.declared.reader.Part.{Part}
-use Rattle.pattern.specs.declared.reader.Table.{Table}
+use Rattle.pattern.specs.declared.reader.Reader.{Reader}
 use Rattle.pattern.specs.declared.scan.State.TheVariants.{Fresh}
-use Rattle.pattern.proofs.Build.{stood, stood_within}
+use Rattle.pattern.proofs.Build.{stood}
 use Rattle.pattern.proofs.Formed.{passes, means}
 
 -- what is well formed without an opening anchor does not begin with one
@@ -68,50 +69,50 @@ module _ (us : List ℕ) where
   whole_of true is s e = stood us 0 94 (sym is) ∙ ap (λ z. 94 ∷ z) e
   whole_of false is s e = e
 
-  module _ (head : Bool) (start : ℕ) (is : head ≡ begins 94 us) (st : start ≡ from head) where
-    body : (d : ℕ) (h e : Bool) (t : Tree) → Written d h e t us → Body d head start h e t us
-    body d h e t w = subst (λ z. Body d head z h e t us) (sym st) (body_of d h e t w head is)
+  module _ (head : Bool) (rest : List ℕ) (is : head ≡ begins 94 us) (st : rest ≡ drop (from head) us) where
+    body : (d : ℕ) (h e : Bool) (t : Tree) → Written d h e t us → Body d head (from head) h e t us
+    body d h e t w = body_of d h e t w head is
 
-    pub start_within : start ≤ length us
-    start_within = elim (cases_Bool head) [
-      | inl h ↦ let l = stood_within us 0 94 (sym is ∙ h) in omega (arith, st ∙ ap from h)
-      | inr h ↦ omega (arith, st ∙ ap from h)
-    ]
-
-    pub malformed : false ≡ formed Fresh 0 (drop start us) → WellFormed us → ⊥
+    pub malformed : false ≡ formed Fresh 0 rest → WellFormed us → ⊥
     malformed fails w =
         let b = body w.0 w.1 w.2 w.3 w.4 in
-        false≢true (fails ∙ ap (formed Fresh 0) b.split ∙ passes b.spelt 0 (closing w.2) (closes w.2))
+        false≢true (fails ∙ ap (formed Fresh 0) (st ∙ b.split) ∙ passes b.spelt 0 (closing w.2) (closes w.2))
 
-    written : (d : ℕ) (e : Bool) (t : Tree) (u : List ℕ) → drop start us ≡ u ++ closing e → Spells d choice t u → Written d head e t us
-    written d e t u q x = (u, whole_of head is (u ++ closing e) (ap (λ z. drop z us) (sym st) ∙ q), x)
+    written : (d : ℕ) (e : Bool) (t : Tree) (u : List ℕ) → rest ≡ u ++ closing e → Spells d choice t u → Written d head e t us
+    written d e t u q x = (u, whole_of head is (u ++ closing e) (sym st ∙ q), x)
 
-    pub well_formed_passed : true ≡ formed Fresh 0 (drop start us) → WellFormed us
+    pub well_formed_passed : true ≡ formed Fresh 0 rest → WellFormed us
     well_formed_passed passed =
-        let r = means (drop start us) Fresh 0 (sym passed) in
+        let r = means rest Fresh 0 (sym passed) in
         let c = r.3 in
         (c.0, head, r.1, c.1, written c.0 r.1 c.1 r.0 r.2 c.2)
 
-    pub over : Refused choice us 8 start 0 → WithinLimits us → ⊥
+    pub over : Refused choice rest 8 0 0 → WithinLimits us → ⊥
     over ref w =
         let b = body 8 w.0 w.1 w.2 w.3 in
-        ref w.2 b.text (closing w.1) b.spelt b.split (closing_next w.1) (omega (arith, w.4))
+        ref w.2 b.text (closing w.1) b.spelt (st ∙ b.split) (closing_next w.1) (omega (arith, w.4))
 
-    module _ (blank t : Table) (p : Part) (zeros : (k : ℕ) → k < 60 → get_or blank.follow k 0 ≡ 0) (x : Read choice us 8 start 0 blank t p) where
+    module _ (blank : Table) (r : Reader) (q : Part) (zeros : (k : ℕ) → k < 60 → get_or blank.follow k 0 ≡ 0) (x : Read choice rest 8 0 0 blank (table r.places) (piece r.at r.count q)) where
+      abbrev p : Piece
+      p = piece r.at r.count q
+
+      abbrev t : Table
+      t = table r.places
+
       -- behind the choice only the closing anchor may be left
-      left : (d : ℕ) (h e : Bool) (r : Tree) → Written d h e r us → (h ≡ head) × (drop p.at us ≡ closing e) × (r ≡ x.got.tree)
+      left : (d : ℕ) (h e : Bool) (r : Tree) → Written d h e r us → (h ≡ head) × (drop p.at rest ≡ closing e) × (r ≡ x.got.tree)
       left d h e r w =
           let b = body d h e r w in
-          let o = x.only d r b.text (closing e) b.spelt b.split (closing_next e) in
-          (b.opened, append_cancel_left x.got.text (drop p.at us) (closing e) (sym x.got.split ∙ b.split ∙ ap (λ z. z ++ closing e) o.1), o.0)
+          let o = x.only d r b.text (closing e) b.spelt (st ∙ b.split) (closing_next e) in
+          (b.opened, append_cancel_left x.got.text (drop p.at rest) (closing e) (sym x.got.split ∙ (st ∙ b.split) ∙ ap (λ z. z ++ closing e) o.1), o.0)
 
       leads : (q r : ℕ) → q < 60 → (Has (get_or t.follow q 0) r → Linked (links x.got.tree 0) q r) × (Linked (links x.got.tree 0) q r → Has (get_or t.follow q 0) r)
       leads q r lt =
           let g = x.got.leads q r lt in
           (λ h. elim (g.0 h) [ inl i ↦ absurd (has_none r (subst (λ z. Has z r) (zeros q lt) i)) | inr i ↦ i ], λ h. g.1 (inr h))
 
-      pub accepted : (n : ℕ) → n ≡ length us → true ≡ formed Fresh 0 (drop start us)
-          → Accepted us (record { automaton = record { head = head; tail = ltb p.at n; nullable = p.null; firsts = p.first; lasts = p.last; places = p.next; atoms = t.atoms; follow = t.follow } })
+      pub accepted : (n : ℕ) → n ≡ length rest → true ≡ formed Fresh 0 rest
+          → Accepted us (record { automaton = record { head = head; tail = ltb r.at n; nullable = q.null; firsts = q.first; lasts = q.last; count = r.count; places = r.places } })
       accepted n long passed =
           let w = well_formed_passed passed in
           let e = w.2 in
@@ -126,7 +127,7 @@ module _ (us : List ℕ) where
             only = λ d h f r v. let m = left d h f r v in (m.0, same_closing f e (sym m.1 ∙ l.1), m.2);
             stands = record {
               heads = refl;
-              tails = ap (ltb p.at) long ∙ tail_told us p.at e x.inside.1 l.1;
+              tails = ap (ltb p.at) long ∙ tail_told rest p.at e x.inside.1 l.1;
               nulls = x.got.nulls;
               begins = x.got.begins;
               ends = x.got.ends;

@@ -1,12 +1,13 @@
 -- What has been read of a pattern, and when nothing can be.
 use Rattle.std.specs.Prelude.{◌≡◌, ℕ, ◌+◌, ◌≤◌, Bool, true, false, ◌||◌, List, ◌++◌, length, take, drop, Some, None, Option}
+use Rattle.units.specs.Units.{units}
 use Rattle.automaton.specs.Language.{Tree}
 use Rattle.automaton.specs.Places.{first, last, null, size, links, atoms_of}
 use Rattle.pattern.specs.Signs.{begins, stops}
 use Rattle.pattern.specs.Grammar.{Kind, choice, sequence, item, atom, Spells}
-use Rattle.pattern.specs.Parts.{Grown}
+use Rattle.pattern.specs.Parts.{Piece, piece, Table, table, Grown}
 use Rattle.pattern.specs.declared.reader.Part.{Part}
-use Rattle.pattern.specs.declared.reader.Table.{Table}
+use Rattle.pattern.specs.declared.reader.Reader.{Reader}
 
 abbrev pub repeats : List ℕ → Bool
 repeats v = begins 42 v || begins 43 v || begins 63 v
@@ -19,7 +20,7 @@ Next item v = repeats v ≡ false
 Next atom v = Unit {0}
 
 -- from `at` on, us begins with a part of that kind, its places numbered from n, and p says where it ends and what it is
-pub record Got (kind : Kind) (us : List ℕ) (d at n : ℕ) (before after : Table) (p : Part) : Type 0 where
+pub record Got (kind : Kind) (us : List ℕ) (d at n : ℕ) (before after : Table) (p : Piece) : Type 0 where
   pub tree : Tree
   pub text : List ℕ
   pub split : drop at us ≡ text ++ drop p.at us
@@ -36,7 +37,7 @@ pub record Got (kind : Kind) (us : List ℕ) (d at n : ℕ) (before after : Tabl
 abbrev pub Only : Kind → List ℕ → ℕ → Tree → List ℕ → Type 0
 Only kind us at tree text = (d : ℕ) (t : Tree) (u v : List ℕ) → Spells d kind t u → drop at us ≡ u ++ v → Next kind v → (t ≡ tree) × (u ≡ text)
 
-pub record Read (kind : Kind) (us : List ℕ) (d at n : ℕ) (before after : Table) (p : Part) : Type 0 where
+pub record Read (kind : Kind) (us : List ℕ) (d at n : ℕ) (before after : Table) (p : Piece) : Type 0 where
   pub got : Got kind us d at n before after p
   pub only : Only kind us at got.tree got.text
   pub inside : (at ≤ p.at) × (p.at ≤ length us)
@@ -45,7 +46,12 @@ pub record Read (kind : Kind) (us : List ℕ) (d at n : ℕ) (before after : Tab
 abbrev pub Refused : Kind → List ℕ → ℕ → ℕ → ℕ → Type 0
 Refused kind us d at n = (t : Tree) (u v : List ℕ) → Spells d kind t u → drop at us ≡ u ++ v → Next kind v → n + size t ≤ 60 → ⊥
 
--- what a reading function answers
-abbrev pub Outcome : Kind → List ℕ → ℕ → ℕ → ℕ → Table → Table → Option Part → Type 0
-Outcome kind us d at n before after (Some p) = Read kind us d at n before after p
-Outcome kind us d at n before after None = Refused kind us d at n
+-- the part that stood where the reader was, which now stands behind it
+pub record Went (kind : Kind) (d : ℕ) (before after : Reader) (p : Part) : Type 0 where
+  pub same : after.pattern.now ≡ before.pattern.now
+  pub read : Read kind (units before.pattern.now) d before.at before.count (table before.places) (table after.places) (piece after.at after.count p)
+
+-- what a reading method answers
+abbrev pub Outcome : Kind → ℕ → Reader → Reader → Option Part → Type 0
+Outcome kind d before after (Some p) = Went kind d before after p
+Outcome kind d before after None = Refused kind (units before.pattern.now) d before.at before.count

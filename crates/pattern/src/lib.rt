@@ -3,22 +3,23 @@
 // A text matches exactly when some run of its neighbouring units belongs to that tree, as the anchors allow.
 #![tactic(auto)]
 
-ghost use Rattle.std.specs.Prelude.{◌≡◌, ℕ, Bool, List, if◌then◌else◌, Decides};
+ghost use Rattle.std.specs.Prelude.{◌≡◌, ℕ, Bool, List, Decides};
 ghost use Rattle.units.specs.Units.{units};
 ghost use Rattle.automaton.specs.Language.{Tree, Matches};
 ghost use Rattle.automaton.specs.Places.{Stands};
-ghost use Rattle.pattern.specs.Caused.{cause_of, cause_of_pattern, pattern_answer};
+ghost use Rattle.pattern.specs.Caused.{body, cause_of, cause_of_pattern, pattern_answer};
 ghost use Rattle.pattern.specs.Examples.{Worked, Computed};
 ghost use Rattle.pattern.specs.Judged.{Accepted, Reads, Decided};
+ghost use Rattle.pattern.specs.Signs.{begins};
 ghost use Rattle.pattern.specs.Parsed.{pattern_match};
 
 mod reader;
 mod scan;
 mod signs;
 
-use automaton::{Atom, Automaton};
+use automaton::{Atom, Automaton, Place};
 use faults::Cause;
-use reader::Table;
+use reader::Reader;
 use units::count;
 
 // A pattern that was accepted.
@@ -27,10 +28,22 @@ pub struct Pattern {
     automaton: Automaton,
 }
 
-fn behind_head(head: bool) -> usize
-    ensures { result ≡ (if head then 1 else 0) }
+// A place that no atom has taken yet.
+const UNUSED: Place = Place {
+    atom: Atom::Any,
+    follow: 0,
+};
+
+// Whether the pattern has the opening anchor, and what stands behind it.
+fn behind_head(pattern: &[u8]) -> (bool, &[u8])
+    ensures head { result.0 ≡ begins 94 (units pattern.now) }
+    ensures body { units result.1.now ≡ body (units pattern.now) }
 {
-    if head { 1 } else { 0 }
+    if signs::stands(pattern, 0, signs::HEAD) {
+        (true, &pattern[2..])
+    } else {
+        (false, pattern)
+    }
 }
 
 // Reads a pattern. Whether it is well formed is judged first, at any depth, so that only a well-formed one can be
@@ -39,28 +52,28 @@ pub fn read(pattern: &[u8]) -> Result<Pattern, Cause>
     ensures exact { Reads (units pattern.now) result }
     ensures value { cause_of result ≡ cause_of_pattern (units pattern.now) }
 {
-    let head = signs::stands(pattern, 0, signs::HEAD);
-    let start = behind_head(head);
-    if !scan::well_formed(pattern, start) {
+    let (head, body) = behind_head(pattern);
+    if !scan::well_formed(body) {
         return Err(Cause::MalformedPattern);
     }
-    let mut table = Table {
-        atoms: [Atom::Any; 60],
-        follow: [0; 60],
+    let mut reader = Reader {
+        pattern: body,
+        at: 0,
+        count: 0,
+        places: [UNUSED; 60],
     };
-    let Some(whole) = reader::choice(pattern, start, 0, 8, &mut table) else {
+    let Some(whole) = reader.choice(8) else {
         return Err(Cause::PatternOverLimit);
     };
     Ok(Pattern {
         automaton: Automaton {
             head,
-            tail: whole.at < count(pattern),
+            tail: reader.at < count(body),
             nullable: whole.null,
             firsts: whole.first,
             lasts: whole.last,
-            places: whole.next,
-            atoms: table.atoms,
-            follow: table.follow,
+            count: reader.count,
+            places: reader.places,
         },
     })
 }
@@ -78,16 +91,12 @@ pub fn decide(pattern: &[u8], text: &[u8]) -> Result<bool, Cause>
     ensures exact { Decided (units pattern.now) (units text.now) result }
     ensures value { result ≡ pattern_answer (units pattern.now) (units text.now) }
 {
-    match read(pattern) {
-        Ok(p) => Ok(matches(&p, text)),
-        Err(cause) => Err(cause),
-    }
+    let p = read(pattern)?;
+    Ok(matches(&p, text))
 }
 
 // The worked patterns as a theorem: `^(a|bc)*$` spells its tree, BCA matches it, and ab does not; others are computed.
-pub fn worked_examples_stand() -> u8
+pub fn worked_examples_stand()
     ensures worked { Worked }
     ensures computed { Computed }
-{
-    0
-}
+{}

@@ -1,189 +1,195 @@
 // The reader of a pattern: a choice holds sequences, a sequence holds items, and an item may hold a choice.
 // Each call goes one step down of the brackets that may still be opened, and each loop on through the units.
 // What is read is joined at once into the sets of an automaton; no tree is built.
-ghost use Rattle.std.specs.Prelude.{◌≡◌, ◌+◌, ◌^◌, ◌<◌, ◌≤◌, [], ◌∷◌, ◌++◌, length, take, if◌then◌else◌};
+ghost use Rattle.std.specs.Prelude.{◌≡◌, ℕ, ◌+◌, ◌^◌, ◌<◌, ◌≤◌, [], ◌∷◌, ◌++◌, length, take, drop};
 ghost use Rattle.units.specs.Units.{units};
+ghost use Rattle.automaton.specs.Places.{atoms, follows};
 ghost use Rattle.pattern.specs.Grammar.{choice as Choice, sequence as Sequence, item as Item, atom as Atomic};
-ghost use Rattle.pattern.specs.Parts.{Either, Both, Moved, Single, Grown};
+ghost use Rattle.pattern.specs.Parts.{piece, Either, Both, Single, Grown};
 ghost use Rattle.pattern.specs.Reading.{Outcome};
+ghost use Rattle.pattern.specs.Signs.{begins, stops as stops_at};
 
 use super::signs::*;
-use automaton::{Atom, has};
+use automaton::{Atom, Place, has};
 
-// A part that was read: where it ends, the first place behind its own, where its runs begin and end, and whether
-// the empty run belongs.
+// A part that was read: where its runs begin and end, and whether the empty run belongs.
 #[derive(Clone, Copy)]
 pub struct Part {
-    pub at: usize,
-    pub next: usize,
     pub first: u64,
     pub last: u64,
     pub null: bool,
 }
 
-// What each place takes, and which may follow it.
-#[derive(Clone, Copy)]
-pub struct Table {
-    pub atoms: [Atom; 60],
-    pub follow: [u64; 60],
+// Reads a pattern, from `at` on: each atom for one unit takes the next of the places, of which `count` are in use.
+// The places stand in an array, as in the automaton, and not in an ArrayVec, which would only be copied there.
+#[derive(Drop)]
+pub struct Reader<'a> {
+    pub pattern: &'a [u8],
+    pub at: usize,
+    pub count: usize,
+    pub places: [Place; 60],
 }
 
 // From each place of the first set one may go on to each of the second.
-fn link(t: &mut Table, from: u64, to: u64)
-    ensures kept { t.new.atoms ≡ t.old.atoms }
-    ensures leads { Grown t.old.follow t.new.follow ((from, to) ∷ []) }
+fn link(places: &mut [Place; 60], from: u64, to: u64)
+    ensures kept { atoms places.new ≡ atoms places.old }
+    ensures leads { Grown (follows places.old) (follows places.new) ((from, to) ∷ []) }
 {
-    for p in 0..60usize {
+    for (p, place) in places.iter_mut().enumerate() {
         if has(from, p) {
-            t.follow[p] |= to;
+            place.follow |= to;
         }
     }
 }
 
 // What the place n takes.
-fn put(t: &mut Table, n: usize, a: Atom)
+fn put(places: &mut [Place; 60], n: usize, a: Atom)
     requires { n < 60 }
-    ensures kept { t.new.follow ≡ t.old.follow }
-    ensures takes { take (n + 1) t.new.atoms ≡ take n t.old.atoms ++ a ∷ [] }
+    ensures kept { follows places.new ≡ follows places.old }
+    ensures takes { take (n + 1) (atoms places.new) ≡ take n (atoms places.old) ++ a ∷ [] }
 {
-    t.atoms[n] = a;
+    places[n].atom = a;
 }
 
-// The set, under a test.
-fn when(test: bool, set: u64) -> u64
-    ensures { result ≡ (if test then set else 0) }
-{
-    if test { set } else { 0 }
-}
+impl Part {
+    // A choice of two parts, wherever they stand.
+    fn either(self, b: Part) -> Part
+        ensures { (at next to behind : ℕ) → Either (piece at next self) (piece to behind b) (piece to behind result) }
+    {
+        Part {
+            first: self.first | b.first,
+            last: self.last | b.last,
+            null: self.null || b.null,
+        }
+    }
 
-// A choice of two parts.
-fn either(a: Part, b: Part) -> Part
-    ensures { Either a b result }
-{
-    Part {
-        at: b.at,
-        next: b.next,
-        first: a.first | b.first,
-        last: a.last | b.last,
-        null: a.null || b.null,
+    // One part behind the other.
+    fn both(self, b: Part) -> Part
+        ensures { (at next to behind : ℕ) → Both (piece at next self) (piece to behind b) (piece to behind result) }
+    {
+        let begun = if self.null { b.first } else { 0 };
+        let ended = if b.null { self.last } else { 0 };
+        Part {
+            first: self.first | begun,
+            last: b.last | ended,
+            null: self.null && b.null,
+        }
+    }
+
+    // An atom at the place n, whatever it is written with.
+    fn single(n: usize) -> Part
+        requires { n < 60 }
+        ensures { (at units : ℕ) → Single at units n (piece (at + units) (n + 1) result) }
+    {
+        Part {
+            first: 1 << n,
+            last: 1 << n,
+            null: false,
+        }
     }
 }
 
-// One part behind the other.
-fn both(a: Part, b: Part) -> Part
-    ensures { Both a b result }
-{
-    Part {
-        at: b.at,
-        next: b.next,
-        first: a.first | when(a.null, b.first),
-        last: b.last | when(b.null, a.last),
-        null: a.null && b.null,
+// Each of choice, sequence, item and atom reads what stands at `at`, and may open `depth` brackets more. None says that
+// no such part stands there within the limits.
+impl<'a> Reader<'a> {
+    // Does this unit stand next?
+    fn stands(&self, u: u16) -> bool
+        ensures { result ≡ begins u (drop self.now.at (units self.now.pattern.now)) }
+    {
+        stands(self.pattern, self.at, u)
     }
-}
 
-// A part with one unit more behind it: a repeat or a closing bracket.
-fn moved(a: Part, null: bool) -> Part
-    requires { a.at + 1 < 2 ^ 64 }
-    ensures { Moved a null result }
-{
-    Part {
-        at: a.at + 1,
-        next: a.next,
-        first: a.first,
-        last: a.last,
-        null,
+    // Does a sequence end here?
+    fn stops(&self) -> bool
+        ensures { result ≡ stops_at (drop self.now.at (units self.now.pattern.now)) }
+    {
+        stops(self.pattern, self.at)
     }
-}
 
-// An atom at the place n, written with so many units.
-fn single(at: usize, units: usize, n: usize) -> Part
-    requires { (at + units < 2 ^ 64) × (n < 60) }
-    ensures { Single at units n result }
-{
-    Part {
-        at: at + units,
-        next: n + 1,
-        first: 1 << n,
-        last: 1 << n,
-        null: false,
+    #[cycle(atom_choice_item_sequence)]
+    pub fn choice(&mut self, depth: usize) -> Option<Part>
+        requires inside { self.old.at ≤ length (units self.old.pattern.now) }
+        requires room { self.old.count ≤ 60 }
+        ensures { Outcome Choice depth self.old self.new result }
+    {
+        let mut a = self.sequence(depth)?;
+        while self.stands(BAR) {
+            self.at += 1;
+            let b = self.sequence(depth)?;
+            a = a.either(b);
+        }
+        Some(a)
     }
-}
 
-// Each of the four reads what stands at `at`, numbers its places from n on, and may open `depth` brackets more. None
-// says that no such part stands there within the limits.
-#[cycle(atom_choice_item_sequence)]
-pub fn choice(s: &[u8], at: usize, n: usize, depth: usize, t: &mut Table) -> Option<Part>
-    requires { (at ≤ length (units s.now)) × (n ≤ 60) }
-    ensures { Outcome Choice (units s.now) depth at n t.old t.new result }
-{
-    let mut a = sequence(s, at, n, depth, t)?;
-    while stands(s, a.at, BAR) {
-        let b = sequence(s, a.at + 1, a.next, depth, t)?;
-        a = either(a, b);
+    #[cycle(atom_choice_item_sequence)]
+    fn sequence(&mut self, depth: usize) -> Option<Part>
+        requires inside { self.old.at ≤ length (units self.old.pattern.now) }
+        requires room { self.old.count ≤ 60 }
+        ensures { Outcome Sequence depth self.old self.new result }
+    {
+        let mut a = Part {
+            first: 0,
+            last: 0,
+            null: true,
+        };
+        while !self.stops() {
+            let b = self.item(depth)?;
+            link(&mut self.places, a.last, b.first);
+            a = a.both(b);
+        }
+        Some(a)
     }
-    Some(a)
-}
 
-#[cycle(atom_choice_item_sequence)]
-fn sequence(s: &[u8], at: usize, n: usize, depth: usize, t: &mut Table) -> Option<Part>
-    requires { (at ≤ length (units s.now)) × (n ≤ 60) }
-    ensures { Outcome Sequence (units s.now) depth at n t.old t.new result }
-{
-    let mut a = Part {
-        at,
-        next: n,
-        first: 0,
-        last: 0,
-        null: true,
-    };
-    while !stops(s, a.at) {
-        let b = item(s, a.at, a.next, depth, t)?;
-        link(t, a.last, b.first);
-        a = both(a, b);
+    #[cycle(atom_choice_item_sequence)]
+    fn item(&mut self, depth: usize) -> Option<Part>
+        requires inside { self.old.at ≤ length (units self.old.pattern.now) }
+        requires room { self.old.count ≤ 60 }
+        ensures { Outcome Item depth self.old self.new result }
+    {
+        let a = self.atom(depth)?;
+        if self.stands(STAR) {
+            self.at += 1;
+            link(&mut self.places, a.last, a.first);
+            return Some(Part { null: true, ..a });
+        }
+        if self.stands(PLUS) {
+            self.at += 1;
+            link(&mut self.places, a.last, a.first);
+            return Some(a);
+        }
+        if self.stands(QUERY) {
+            self.at += 1;
+            return Some(Part { null: true, ..a });
+        }
+        Some(a)
     }
-    Some(a)
-}
 
-#[cycle(atom_choice_item_sequence)]
-fn item(s: &[u8], at: usize, n: usize, depth: usize, t: &mut Table) -> Option<Part>
-    requires { (at ≤ length (units s.now)) × (n ≤ 60) }
-    ensures { Outcome Item (units s.now) depth at n t.old t.new result }
-{
-    let a = atom(s, at, n, depth, t)?;
-    if stands(s, a.at, STAR) {
-        link(t, a.last, a.first);
-        return Some(moved(a, true));
-    }
-    if stands(s, a.at, PLUS) {
-        link(t, a.last, a.first);
-        return Some(moved(a, a.null));
-    }
-    if stands(s, a.at, QUERY) {
-        return Some(moved(a, true));
-    }
-    Some(a)
-}
-
-#[cycle(atom_choice_item_sequence)]
-fn atom(s: &[u8], at: usize, n: usize, depth: usize, t: &mut Table) -> Option<Part>
-    requires { (at ≤ length (units s.now)) × (n ≤ 60) }
-    ensures { Outcome Atomic (units s.now) depth at n t.old t.new result }
-{
-    if stands(s, at, OPEN) {
-        if depth == 0 {
+    #[cycle(atom_choice_item_sequence)]
+    fn atom(&mut self, depth: usize) -> Option<Part>
+        requires inside { self.old.at ≤ length (units self.old.pattern.now) }
+        requires room { self.old.count ≤ 60 }
+        ensures { Outcome Atomic depth self.old self.new result }
+    {
+        if self.stands(OPEN) {
+            if depth == 0 {
+                return None;
+            }
+            self.at += 1;
+            let inner = self.choice(depth - 1)?;
+            if self.stands(CLOSE) {
+                self.at += 1;
+                return Some(inner);
+            }
             return None;
         }
-        let inner = choice(s, at + 1, n, depth - 1, t)?;
-        if stands(s, inner.at, CLOSE) {
-            return Some(moved(inner, inner.null));
+        let n = self.count;
+        if n >= 60 {
+            return None;
         }
-        return None;
+        let (a, units) = simple(self.pattern, self.at)?;
+        put(&mut self.places, n, a);
+        self.at += units;
+        self.count += 1;
+        Some(Part::single(n))
     }
-    if n >= 60 {
-        return None;
-    }
-    let (a, units) = simple(s, at)?;
-    put(t, n, a);
-    Some(single(at, units, n))
 }

@@ -1,11 +1,11 @@
 // Is a pattern well formed, however deep its brackets nest? One pass, with a count of the brackets that are open.
-ghost use Rattle.std.specs.Prelude.{◌≡◌, ◌+◌, ◌^◌, ◌<◌, drop};
+ghost use Rattle.std.specs.Prelude.{◌≡◌, ◌+◌, ◌^◌, ◌<◌};
 ghost use Rattle.units.specs.Units.{units};
 ghost use Rattle.pattern.specs.declared.scan.State.TheVariants.{Fresh};
 ghost use Rattle.pattern.specs.Formed.{class_of, free as freely, after as afterwards, done, formed, Small};
 
 use super::signs::*;
-use units::{count, unit};
+use units::Units;
 
 // Where the pass stands: behind an atom, which a repeat may follow; where none may; behind a backslash; behind the
 // closing anchor.
@@ -45,69 +45,75 @@ fn class_of(u: u16) -> Class
     }
 }
 
-// A unit that is not escaped, with an atom before it or not.
-fn free(behind: bool, depth: usize, c: Class) -> Option<(State, usize)>
-    requires { depth + 1 < 2 ^ 64 }
-    ensures value { result ≡ freely behind depth c }
-    ensures small { Small depth result }
-{
-    match c {
-        Class::Opens => Some((State::Fresh, depth + 1)),
-        Class::Closes if depth > 0 => Some((State::Behind, depth - 1)),
-        Class::Parts => Some((State::Fresh, depth)),
-        Class::Escapes => Some((State::Escaped, depth)),
-        Class::Repeats if behind => Some((State::Fresh, depth)),
-        Class::Ends if depth == 0 => Some((State::Closed, 0)),
-        Class::Takes => Some((State::Behind, depth)),
-        _ => None,
-    }
+// Where the pass stands, and how many brackets are open.
+#[derive(Clone, Copy)]
+pub struct Pass {
+    pub state: State,
+    pub depth: usize,
 }
 
-// One unit on, or none if it may not stand there.
-fn after(state: State, depth: usize, u: u16) -> Option<(State, usize)>
-    requires { depth + 1 < 2 ^ 64 }
-    ensures value { result ≡ afterwards state depth u }
-    ensures small { Small depth result }
-{
-    match state {
-        State::Fresh => free(false, depth, class_of(u)),
-        State::Behind => free(true, depth, class_of(u)),
-        State::Escaped => {
-            if special(u) {
-                Some((State::Behind, depth))
-            } else {
-                None
-            }
-        }
-        State::Closed => None,
+impl Pass {
+    // A unit that is not escaped, with an atom before it or not.
+    fn free(self, behind: bool, c: Class) -> Option<Pass>
+        requires { self.depth + 1 < 2 ^ 64 }
+        ensures value { result ≡ freely behind self.depth c }
+        ensures small { Small self.depth result }
+    {
+        let (state, depth) = match c {
+            Class::Opens => (State::Fresh, self.depth + 1),
+            Class::Closes if self.depth > 0 => (State::Behind, self.depth - 1),
+            Class::Parts => (State::Fresh, self.depth),
+            Class::Escapes => (State::Escaped, self.depth),
+            Class::Repeats if behind => (State::Fresh, self.depth),
+            Class::Ends if self.depth == 0 => (State::Closed, 0),
+            Class::Takes => (State::Behind, self.depth),
+            _ => return None,
+        };
+        Some(Pass { state, depth })
     }
-}
 
-// May the pattern end here?
-fn complete(state: State, depth: usize) -> bool
-    ensures { result ≡ done state depth }
-{
-    match state {
-        State::Escaped => false,
-        State::Closed => true,
-        _ => depth == 0,
-    }
-}
-
-// Do the units from `start` on spell a choice, perhaps with the closing anchor, at any depth?
-pub fn well_formed(s: &[u8], start: usize) -> bool
-    ensures { result ≡ formed Fresh 0 (drop start (units s.now)) }
-{
-    let mut state = State::Fresh;
-    let mut depth = 0;
-    for i in start..count(s) {
-        match after(state, depth, unit(s, i)) {
-            None => return false,
-            Some((next, n)) => {
-                state = next;
-                depth = n;
-            }
+    // One unit on, or none if it may not stand there.
+    fn after(self, u: u16) -> Option<Pass>
+        requires { self.depth + 1 < 2 ^ 64 }
+        ensures value { result ≡ afterwards self.state self.depth u }
+        ensures small { Small self.depth result }
+    {
+        match self.state {
+            State::Fresh => self.free(false, class_of(u)),
+            State::Behind => self.free(true, class_of(u)),
+            State::Escaped if special(u) => Some(Pass {
+                state: State::Behind,
+                ..self
+            }),
+            _ => None,
         }
     }
-    complete(state, depth)
+
+    // May the pattern end here?
+    fn complete(self) -> bool
+        ensures { result ≡ done self.state self.depth }
+    {
+        match self.state {
+            State::Escaped => false,
+            State::Closed => true,
+            _ => self.depth == 0,
+        }
+    }
+}
+
+// Do the units spell a choice, perhaps with the closing anchor, at any depth?
+pub fn well_formed(body: &[u8]) -> bool
+    ensures { result ≡ formed Fresh 0 (units body.now) }
+{
+    let mut pass = Pass {
+        state: State::Fresh,
+        depth: 0,
+    };
+    for u in Units::of(body) {
+        let Some(next) = pass.after(u) else {
+            return false;
+        };
+        pass = next;
+    }
+    pass.complete()
 }

@@ -31,52 +31,38 @@ pub const TAIL: u16 = 0x24;
 pub fn special(u: u16) -> bool
     ensures { result ≡ is_special u }
 {
-    match u {
-        0x24 | 0x28..=0x2B | 0x2E | 0x3F | 0x5B..=0x5E | 0x7C => true,
-        _ => false,
-    }
+    matches!(u, 0x24 | 0x28..=0x2B | 0x2E | 0x3F | 0x5B..=0x5E | 0x7C)
 }
 
 // Does this unit stand at the place?
 pub fn stands(s: &[u8], at: usize, u: u16) -> bool
     ensures { result ≡ begins u (drop at (units s.now)) }
 {
-    match unit_at(s, at) {
-        Some(x) => x == u,
-        None => false,
-    }
+    unit_at(s, at) == Some(u)
 }
 
 // Does the unit part or end sequences?
 fn parts(u: u16) -> bool
     ensures { result ≡ parting u }
 {
-    match u {
-        BAR | CLOSE | TAIL => true,
-        _ => false,
-    }
+    matches!(u, BAR | CLOSE | TAIL)
 }
 
 // Is the place behind a sequence: the end, a bar, a closing bracket or the closing anchor?
 pub fn stops(s: &[u8], at: usize) -> bool
     ensures { result ≡ stops_at (drop at (units s.now)) }
 {
-    match unit_at(s, at) {
-        Some(u) => parts(u),
-        None => true,
-    }
+    unit_at(s, at).is_none_or(parts)
 }
 
 // A dot or a plain unit, written with one unit.
 fn unescaped(u: u16) -> Option<(Atom, usize)>
     ensures { result ≡ plainly u }
 {
-    if u == DOT {
-        Some((Atom::Any, 1))
-    } else if special(u) {
-        None
-    } else {
-        Some((Atom::Plain(u), 1))
+    match u {
+        DOT => Some((Atom::Any, 1)),
+        _ if special(u) => None,
+        _ => Some((Atom::Plain(u), 1)),
     }
 }
 
@@ -95,16 +81,8 @@ fn behind_escape(u: u16) -> Option<(Atom, usize)>
 pub fn simple(s: &[u8], at: usize) -> Option<(Atom, usize)>
     ensures { result ≡ simple_at (drop at (units s.now)) }
 {
-    match unit_at(s, at) {
-        None => None,
-        Some(u) => {
-            if u != ESCAPE {
-                return unescaped(u);
-            }
-            match unit_at(s, at + 1) {
-                None => None,
-                Some(v) => behind_escape(v),
-            }
-        }
+    match unit_at(s, at)? {
+        ESCAPE => behind_escape(unit_at(s, at + 1)?),
+        u => unescaped(u),
     }
 }

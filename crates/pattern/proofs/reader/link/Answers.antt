@@ -1,26 +1,31 @@
-use Rattle.std.proofs.Common.{◌≡◌, ◌+◌, ◌<◌, length, sym, refl, ◌∙◌, subst, arith, rules}
-use Rattle.std.proofs.lemmas.List.{length-set}
-use Rattle.pattern.proofs.Grow.{Spread, spread_keep, spread_add, grown_one}
+use Rattle.std.proofs.Common.{◌≡◌, ◌+◌, ◌<◌, length, sym, refl, ◌∙◌, subst, arith}
+use Rattle.std.proofs.lemmas.List.{length-map, length-set, set-get_or}
+use Rattle.std.proofs.Math.Seq.{map-set_same}
+use Rattle.automaton.specs.Places.{atoms, follows}
+use Rattle.automaton.specs.declared.Place.{Place}
+use Rattle.automaton.proofs.Used.{blank}
+use Rattle.pattern.proofs.Grow.{Spread, spread_keep, spread_add, follows_set, grown_one}
 use Rattle.pattern.proofs.reader.link.Goals as goal
 use Rattle.pattern.proofs.reader.link.Goals.{then-has, else-has}
 
-pub returns : goal.returns
-returns c = record { kept = c.loop-p.invariant.0; leads = grown_one c.args.from c.args.to c.args.t.now.follow c.loop-p.t.follow c.loop-p.p c.loop-p-test.false c.loop-p.invariant.2 }
+pub returns-clause-leads : goal.returns-clause-leads
+returns-clause-leads c =
+    grown_one c.args.from c.args.to (follows c.args.places.now) (follows c.loop-p.places) c.loop-p.p (omega arith) c.loop-p.invariant.2
 
 pub loop-p-preserved : goal.loop-p-preserved
 loop-p-preserved c =
     let f = c.args.from in
     let to = c.args.to in
-    let old = c.args.t.now.follow in
-    let now = c.loop-p.t.follow in
-    let long = c.loop-p.invariant.1 in
-    let lt : c.loop-p.p < length c.loop-p.t.follow = omega arith in
+    let old = c.args.places.now in
+    let now = c.loop-p.places in
+    let p = c.loop-p.p in
+    let lt : p < length (follows now) = omega (arith, length-map now (λ (q : Place). q.follow)) in
     elim c.if-has.branch [
-      | then-has w ↦ subst (λ z. (z.atoms ≡ c.args.t.now.atoms) × (length z.follow ≡ 60) × Spread f to old z.follow (c.loop-p.p + 1)) (sym w.t-is)
-          (c.loop-p.invariant.0, length-set now c.loop-p.p _ ∙ long, spread_add f to old now c.loop-p.p c.loop-p.invariant.2 (sym w.if-has.ensures) lt)
-      | else-has w ↦ subst (λ z. (z.atoms ≡ c.args.t.now.atoms) × (length z.follow ≡ 60) × Spread f to old z.follow (c.loop-p.p + 1)) (sym w.t-is)
-          (c.loop-p.invariant.0, long, spread_keep f to old now c.loop-p.p c.loop-p.invariant.2 (sym w.if-has.ensures))
+      | then-has w ↦ subst (λ z. (length z ≡ 60) × (atoms z ≡ atoms old) × Spread f to (follows old) (follows z) (p + 1)) (sym w.places-is) (
+        length-set now p _ ∙ c.loop-p.invariant.0,
+        map-set_same (λ (q : Place). q.atom) now p _ blank refl ∙ c.loop-p.invariant.1,
+        subst (λ z. Spread f to (follows old) z (p + 1)) (sym (follows_set now p to _)) (spread_add f to (follows old) (follows now) p c.loop-p.invariant.2 (sym w.if-has.ensures) lt),
+      )
+      | else-has w ↦ subst (λ z. (length z ≡ 60) × (atoms z ≡ atoms old) × Spread f to (follows old) (follows z) (p + 1)) (sym (w.places-is ∙ set-get_or now p blank))
+          (c.loop-p.invariant.0, c.loop-p.invariant.1, spread_keep f to (follows old) (follows now) p c.loop-p.invariant.2 (sym w.if-has.ensures))
     ]
-
-pub loop-p-init : goal.loop-p-init
-loop-p-init c = (refl, search rules, (λ k lt. absurd (omega arith), λ k le. refl))

@@ -1,8 +1,10 @@
-use Rattle.std.proofs.Common.{◌≡◌, ◌≤◌, drop}
+use Rattle.std.proofs.Common.{◌≡◌, ◌+◌, ◌≤◌, length}
 use Rattle.units.specs.Units.{units}
 use Rattle.pattern.specs.Formed.{formed}
 use Rattle.pattern.specs.declared.scan.State.TheVariants.{Fresh}
 use Rattle.pattern.proofs.scan.well_formed.Given as goal
 
-abbrev pub invariant-loop-i : goal.invariant-loop-i
-invariant-loop-i l = (formed l.state l.depth (drop l.i (units l.s)) ≡ formed Fresh 0 (drop l.start (units l.s))) × (l.depth ≤ l.i)
+abbrev pub invariant-loop-u : goal.invariant-loop-u
+invariant-loop-u l =
+    (formed l.pass.state l.pass.depth (units l.u-iterator.rest.now) ≡ formed Fresh 0 (units l.body))
+    × (l.pass.depth + length (units l.u-iterator.rest.now) ≤ length (units l.body))

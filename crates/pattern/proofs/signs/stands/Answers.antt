@@ -1,11 +1,9 @@
-use Rattle.std.proofs.Common.{sym, ap}
+use Rattle.std.proofs.Common.{nat_eq, Some, ap, ◌∙◌}
+use Rattle.std.specs.Option.{option_eq}
 use Rattle.units.specs.Units.{units}
-use Rattle.pattern.specs.Signs.{begins}
-use Rattle.pattern.proofs.Looks.{nothing_left, unit_left}
+use Rattle.pattern.proofs.Looks.{begins_at}
 use Rattle.pattern.proofs.signs.stands.Goals as goal
 
-pub returns-in-Some : goal.returns-in-Some
-returns-in-Some c = sym (ap (begins c.args.u) (unit_left (units c.args.s.now) c.args.at _ c.in-Some.ensures))
-
-pub returns-in-None : goal.returns-in-None
-returns-in-None c = sym (ap (begins c.args.u) (nothing_left (units c.args.s.now) c.args.at c.in-None.ensures))
+pub returns : goal.returns
+returns c =
+    c.eq.ensures ∙ ap (λ o. option_eq nat_eq o (Some c.args.u)) c.unit_at.ensures ∙ begins_at (units c.args.s.now) c.args.at c.args.u

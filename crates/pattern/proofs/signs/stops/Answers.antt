@@ -1,11 +1,6 @@
-use Rattle.std.proofs.Common.{sym, ap, ◌∙◌}
 use Rattle.units.specs.Units.{units}
-use Rattle.pattern.specs.Signs.{stops}
-use Rattle.pattern.proofs.Looks.{nothing_left, unit_left}
+use Rattle.pattern.proofs.Looks.{stops_at}
 use Rattle.pattern.proofs.signs.stops.Goals as goal
 
-pub returns-in-Some : goal.returns-in-Some
-returns-in-Some c = c.parts.ensures ∙ sym (ap stops (unit_left (units c.args.s.now) c.args.at _ c.in-Some.ensures))
-
-pub returns-in-None : goal.returns-in-None
-returns-in-None c = sym (ap stops (nothing_left (units c.args.s.now) c.args.at c.in-None.ensures))
+pub returns : goal.returns
+returns c = stops_at (units c.args.s.now) c.args.at c.unit_at.result c.is_none_or.result c.unit_at.ensures c.is_none_or.ensures
