@@ -5,11 +5,11 @@ ghost use Rattle.cursor.specs.Pieces.{word_of};
 ghost use Rattle.cursor.specs.Reading.{shown, rest, Reading, text_of};
 ghost use Rattle.actions.specs.Shown.{expr_of};
 
-use super::tree::Expr;
+use super::tree::{Expr, ExprRead};
 use cursor::{Cursor, Piece, Stop};
 use words::Terminal;
 
-fn property<'a>(cursor: &mut Cursor<'a>, i: Piece) -> Result<Expr, Stop>
+fn property<'a>(cursor: &mut Cursor<'a>, i: Piece) -> Result<ExprRead, Stop>
     ensures reads { Reading (G.property (word_of (text_of cursor.old) i)) (rest cursor.old) (shown (expr_of (text_of cursor.old)) result (rest cursor.new)) }
     ensures text { text_of cursor.new ≡ text_of cursor.old }
 {
@@ -25,7 +25,7 @@ fn property<'a>(cursor: &mut Cursor<'a>, i: Piece) -> Result<Expr, Stop>
     }
 }
 
-fn reference<'a>(cursor: &mut Cursor<'a>) -> Result<Expr, Stop>
+fn reference<'a>(cursor: &mut Cursor<'a>) -> Result<ExprRead, Stop>
     ensures reads { Reading G.reference (rest cursor.old) (shown (expr_of (text_of cursor.old)) result (rest cursor.new)) }
     ensures text { text_of cursor.new ≡ text_of cursor.old }
 {
@@ -34,7 +34,7 @@ fn reference<'a>(cursor: &mut Cursor<'a>) -> Result<Expr, Stop>
     property(cursor, i)
 }
 
-pub fn expression<'a>(cursor: &mut Cursor<'a>) -> Result<Expr, Stop>
+pub fn expression<'a>(cursor: &mut Cursor<'a>) -> Result<ExprRead, Stop>
     ensures reads { Reading G.Expression (rest cursor.old) (shown (expr_of (text_of cursor.old)) result (rest cursor.new)) }
     ensures text { text_of cursor.new ≡ text_of cursor.old }
 {
@@ -49,7 +49,7 @@ pub fn expression<'a>(cursor: &mut Cursor<'a>) -> Result<Expr, Stop>
     }
 }
 
-pub fn value_type_expr<'a>(cursor: &mut Cursor<'a>) -> Result<Expr, Stop>
+pub fn value_type_expr<'a>(cursor: &mut Cursor<'a>) -> Result<ExprRead, Stop>
     ensures reads { Reading G.ValueTypeExpr (rest cursor.old) (shown (expr_of (text_of cursor.old)) result (rest cursor.new)) }
     ensures text { text_of cursor.new ≡ text_of cursor.old }
 {

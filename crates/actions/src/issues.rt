@@ -5,11 +5,11 @@ ghost use Rattle.cursor.specs.Reading.{shown, rest, Reading, text_of};
 ghost use Rattle.actions.specs.Shown.{expr_of, two_of, action_of};
 
 use super::exprs::{expression, value_type_expr};
-use super::tree::{Action, Expr};
+use super::tree::{Action, ActionRead, ExprRead};
 use cursor::{Cursor, Stop};
 use words::Terminal;
 
-fn claim_type_assign<'a>(cursor: &mut Cursor<'a>) -> Result<Expr, Stop>
+fn claim_type_assign<'a>(cursor: &mut Cursor<'a>) -> Result<ExprRead, Stop>
     ensures reads { Reading G.ClaimTypeAssign (rest cursor.old) (shown (expr_of (text_of cursor.old)) result (rest cursor.new)) }
     ensures text { text_of cursor.new ≡ text_of cursor.old }
 {
@@ -18,7 +18,7 @@ fn claim_type_assign<'a>(cursor: &mut Cursor<'a>) -> Result<Expr, Stop>
     expression(cursor)
 }
 
-fn claim_val_assign<'a>(cursor: &mut Cursor<'a>) -> Result<Expr, Stop>
+fn claim_val_assign<'a>(cursor: &mut Cursor<'a>) -> Result<ExprRead, Stop>
     ensures reads { Reading G.ClaimValAssign (rest cursor.old) (shown (expr_of (text_of cursor.old)) result (rest cursor.new)) }
     ensures text { text_of cursor.new ≡ text_of cursor.old }
 {
@@ -27,7 +27,7 @@ fn claim_val_assign<'a>(cursor: &mut Cursor<'a>) -> Result<Expr, Stop>
     expression(cursor)
 }
 
-fn claim_val_type_assign<'a>(cursor: &mut Cursor<'a>) -> Result<Expr, Stop>
+fn claim_val_type_assign<'a>(cursor: &mut Cursor<'a>) -> Result<ExprRead, Stop>
     ensures reads { Reading G.ClaimValTypeAssign (rest cursor.old) (shown (expr_of (text_of cursor.old)) result (rest cursor.new)) }
     ensures text { text_of cursor.new ≡ text_of cursor.old }
 {
@@ -36,7 +36,7 @@ fn claim_val_type_assign<'a>(cursor: &mut Cursor<'a>) -> Result<Expr, Stop>
     value_type_expr(cursor)
 }
 
-fn value_first<'a>(cursor: &mut Cursor<'a>) -> Result<(Expr, Expr), Stop>
+fn value_first<'a>(cursor: &mut Cursor<'a>) -> Result<(ExprRead, ExprRead), Stop>
     ensures reads { Reading G.assigns_value_first (rest cursor.old) (shown (two_of (text_of cursor.old)) result (rest cursor.new)) }
     ensures text { text_of cursor.new ≡ text_of cursor.old }
 {
@@ -46,7 +46,7 @@ fn value_first<'a>(cursor: &mut Cursor<'a>) -> Result<(Expr, Expr), Stop>
     Ok((v, y))
 }
 
-fn value_type_first<'a>(cursor: &mut Cursor<'a>) -> Result<(Expr, Expr), Stop>
+fn value_type_first<'a>(cursor: &mut Cursor<'a>) -> Result<(ExprRead, ExprRead), Stop>
     ensures reads { Reading G.assigns_value_type_first (rest cursor.old) (shown (two_of (text_of cursor.old)) result (rest cursor.new)) }
     ensures text { text_of cursor.new ≡ text_of cursor.old }
 {
@@ -56,7 +56,7 @@ fn value_type_first<'a>(cursor: &mut Cursor<'a>) -> Result<(Expr, Expr), Stop>
     Ok((v, y))
 }
 
-fn claim_value_assign<'a>(cursor: &mut Cursor<'a>) -> Result<(Expr, Expr), Stop>
+fn claim_value_assign<'a>(cursor: &mut Cursor<'a>) -> Result<(ExprRead, ExprRead), Stop>
     ensures reads { Reading G.ClaimValueAssign (rest cursor.old) (shown (two_of (text_of cursor.old)) result (rest cursor.new)) }
     ensures text { text_of cursor.new ≡ text_of cursor.old }
 {
@@ -67,7 +67,7 @@ fn claim_value_assign<'a>(cursor: &mut Cursor<'a>) -> Result<(Expr, Expr), Stop>
     }
 }
 
-fn type_first<'a>(cursor: &mut Cursor<'a>) -> Result<Action, Stop>
+fn type_first<'a>(cursor: &mut Cursor<'a>) -> Result<ActionRead, Stop>
     ensures reads { Reading G.assigns_type_first (rest cursor.old) (shown (action_of (text_of cursor.old)) result (rest cursor.new)) }
     ensures text { text_of cursor.new ≡ text_of cursor.old }
 {
@@ -77,7 +77,7 @@ fn type_first<'a>(cursor: &mut Cursor<'a>) -> Result<Action, Stop>
     Ok(Action::New(n, v, y))
 }
 
-fn type_last<'a>(cursor: &mut Cursor<'a>) -> Result<Action, Stop>
+fn type_last<'a>(cursor: &mut Cursor<'a>) -> Result<ActionRead, Stop>
     ensures reads { Reading G.assigns_type_last (rest cursor.old) (shown (action_of (text_of cursor.old)) result (rest cursor.new)) }
     ensures text { text_of cursor.new ≡ text_of cursor.old }
 {
@@ -87,7 +87,7 @@ fn type_last<'a>(cursor: &mut Cursor<'a>) -> Result<Action, Stop>
     Ok(Action::New(n, v, y))
 }
 
-fn claim_new<'a>(cursor: &mut Cursor<'a>) -> Result<Action, Stop>
+fn claim_new<'a>(cursor: &mut Cursor<'a>) -> Result<ActionRead, Stop>
     ensures reads { Reading G.ClaimNew (rest cursor.old) (shown (action_of (text_of cursor.old)) result (rest cursor.new)) }
     ensures text { text_of cursor.new ≡ text_of cursor.old }
 {
@@ -98,7 +98,7 @@ fn claim_new<'a>(cursor: &mut Cursor<'a>) -> Result<Action, Stop>
     }
 }
 
-fn claim_copy<'a>(cursor: &mut Cursor<'a>) -> Result<Action, Stop>
+fn claim_copy<'a>(cursor: &mut Cursor<'a>) -> Result<ActionRead, Stop>
     ensures reads { Reading G.ClaimCopy (rest cursor.old) (shown (action_of (text_of cursor.old)) result (rest cursor.new)) }
     ensures text { text_of cursor.new ≡ text_of cursor.old }
 {
@@ -108,7 +108,7 @@ fn claim_copy<'a>(cursor: &mut Cursor<'a>) -> Result<Action, Stop>
     Ok(Action::Copy(i))
 }
 
-fn issue_params<'a>(cursor: &mut Cursor<'a>) -> Result<Action, Stop>
+fn issue_params<'a>(cursor: &mut Cursor<'a>) -> Result<ActionRead, Stop>
     ensures reads { Reading G.IssueParams (rest cursor.old) (shown (action_of (text_of cursor.old)) result (rest cursor.new)) }
     ensures text { text_of cursor.new ≡ text_of cursor.old }
 {
@@ -119,7 +119,7 @@ fn issue_params<'a>(cursor: &mut Cursor<'a>) -> Result<Action, Stop>
     }
 }
 
-pub fn rule_action<'a>(cursor: &mut Cursor<'a>) -> Result<Action, Stop>
+pub fn rule_action<'a>(cursor: &mut Cursor<'a>) -> Result<ActionRead, Stop>
     ensures reads { Reading G.RuleAction (rest cursor.old) (shown (action_of (text_of cursor.old)) result (rest cursor.new)) }
     ensures text { text_of cursor.new ≡ text_of cursor.old }
 {

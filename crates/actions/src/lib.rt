@@ -6,4 +6,4 @@ mod issues;
 mod tree;
 
 pub use issues::rule_action;
-pub use tree::{Action, Expr};
+pub use tree::{Action, ActionRead, Expr, ExprRead};

@@ -1,17 +1,16 @@
 -- What the conditions of a rule say through the units of the rule text.
-use Rattle.std.specs.Prelude.{ℕ, List, map, take}
+use Rattle.std.specs.Prelude.{ℕ, List, map}
 use Rattle.std.specs.Option.{option_map}
+use Rattle.arrayvec.specs.ArrayVec.{ArrayVec}
 use Rattle.words.specs.Words.{Word}
 use Rattle.grammar.specs.Tree as T
 use Rattle.cursor.specs.Pieces.{word_of}
 use Rattle.cursor.specs.declared.pieces.Piece.{Piece}
 use Rattle.conditions.specs.declared.tree.Cond.{Cond}
 use Rattle.conditions.specs.declared.tree.Cond.TheVariants as cond
-use Rattle.conditions.specs.declared.tree.Conds.{Conds}
 use Rattle.conditions.specs.declared.tree.Oper.{Oper}
 use Rattle.conditions.specs.declared.tree.Oper.TheVariants as oper
 use Rattle.conditions.specs.declared.tree.Selection.{Selection}
-use Rattle.conditions.specs.declared.tree.Selections.{Selections}
 
 abbrev pub oper_of : List ℕ → Oper → T.Oper
 oper_of us oper.Equal = T.eq
@@ -19,7 +18,7 @@ oper_of us oper.NotEqual = T.neq
 oper_of us oper.Matches = T.match
 oper_of us oper.NotMatches = T.no_match
 
-abbrev pub cond_of : List ℕ → Cond → T.Cond
+abbrev pub cond_of : List ℕ → Cond Piece → T.Cond
 cond_of us (cond.Type o l) = T.type_cond (oper_of us o) (word_of us l)
 cond_of us (cond.Value o l p m) = T.value_cond (oper_of us o) (word_of us l) (oper_of us p) (word_of us m)
 
@@ -27,17 +26,11 @@ cond_of us (cond.Value o l p m) = T.value_cond (oper_of us o) (word_of us l) (op
 abbrev pub half_of : List ℕ → Oper × Piece → T.Oper × Word
 half_of us h = (oper_of us h.0, word_of us h.1)
 
-abbrev pub cond_items : Conds → List Cond
-cond_items cs = take cs.len cs.items
-
-abbrev pub conds_of : List ℕ → Conds → List T.Cond
-conds_of us cs = map (cond_of us) (cond_items cs)
+abbrev pub conds_of : List ℕ → ArrayVec (Cond Piece) → List T.Cond
+conds_of us cs = map (cond_of us) cs.items
 
 abbrev pub selection_of : List ℕ → Selection → T.Selection
 selection_of us s = record { name = option_map (word_of us) s.name; conds = conds_of us s.conds }
 
-abbrev pub selection_items : Selections → List Selection
-selection_items ss = take ss.len ss.items
-
-abbrev pub selections_of : List ℕ → Selections → List T.Selection
-selections_of us ss = map (selection_of us) (selection_items ss)
+abbrev pub selections_of : List ℕ → ArrayVec Selection → List T.Selection
+selections_of us ss = map (selection_of us) ss.items

@@ -6,7 +6,7 @@ ghost use Rattle.cursor.specs.Pieces.{word_of};
 ghost use Rattle.cursor.specs.Reading.{shown, rest, Reading, text_of};
 ghost use Rattle.conditions.specs.Shown.{oper_of, cond_of, conds_of, half_of};
 
-use super::tree::{Cond, Conds, Oper, no_conds, with_cond};
+use super::tree::{Cond, Conds, Oper};
 use cursor::{Cursor, Piece, Stop};
 use words::Terminal;
 
@@ -40,7 +40,7 @@ fn cond_oper<'a>(cursor: &mut Cursor<'a>) -> Result<Oper, Stop>
     }
 }
 
-fn type_cond<'a>(cursor: &mut Cursor<'a>) -> Result<Cond, Stop>
+fn type_cond<'a>(cursor: &mut Cursor<'a>) -> Result<Cond<Piece>, Stop>
     ensures reads { Reading G.TypeCond (rest cursor.old) (shown (cond_of (text_of cursor.old)) result (rest cursor.new)) }
     ensures text { text_of cursor.new ≡ text_of cursor.old }
 {
@@ -70,7 +70,7 @@ fn val_type_cond<'a>(cursor: &mut Cursor<'a>) -> Result<(Oper, Piece), Stop>
     Ok((o, l))
 }
 
-fn value_first<'a>(cursor: &mut Cursor<'a>) -> Result<Cond, Stop>
+fn value_first<'a>(cursor: &mut Cursor<'a>) -> Result<Cond<Piece>, Stop>
     ensures reads { Reading G.read_value_first (rest cursor.old) (shown (cond_of (text_of cursor.old)) result (rest cursor.new)) }
     ensures text { text_of cursor.new ≡ text_of cursor.old }
 {
@@ -80,7 +80,7 @@ fn value_first<'a>(cursor: &mut Cursor<'a>) -> Result<Cond, Stop>
     Ok(Cond::Value(o, l, p, m))
 }
 
-fn value_type_first<'a>(cursor: &mut Cursor<'a>) -> Result<Cond, Stop>
+fn value_type_first<'a>(cursor: &mut Cursor<'a>) -> Result<Cond<Piece>, Stop>
     ensures reads { Reading G.read_value_type_first (rest cursor.old) (shown (cond_of (text_of cursor.old)) result (rest cursor.new)) }
     ensures text { text_of cursor.new ≡ text_of cursor.old }
 {
@@ -90,7 +90,7 @@ fn value_type_first<'a>(cursor: &mut Cursor<'a>) -> Result<Cond, Stop>
     Ok(Cond::Value(o, l, p, m))
 }
 
-fn value_cond<'a>(cursor: &mut Cursor<'a>) -> Result<Cond, Stop>
+fn value_cond<'a>(cursor: &mut Cursor<'a>) -> Result<Cond<Piece>, Stop>
     ensures reads { Reading G.ValueCond (rest cursor.old) (shown (cond_of (text_of cursor.old)) result (rest cursor.new)) }
     ensures text { text_of cursor.new ≡ text_of cursor.old }
 {
@@ -101,7 +101,7 @@ fn value_cond<'a>(cursor: &mut Cursor<'a>) -> Result<Cond, Stop>
     }
 }
 
-fn cond<'a>(cursor: &mut Cursor<'a>) -> Result<Cond, Stop>
+fn cond<'a>(cursor: &mut Cursor<'a>) -> Result<Cond<Piece>, Stop>
     ensures reads { Reading G.ACond (rest cursor.old) (shown (cond_of (text_of cursor.old)) result (rest cursor.new)) }
     ensures text { text_of cursor.new ≡ text_of cursor.old }
 {
@@ -122,10 +122,9 @@ fn cond_list<'a>(cursor: &mut Cursor<'a>) -> Result<Conds, Stop>
     ensures reads { Reading G.CondList (rest cursor.old) (shown (conds_of (text_of cursor.old)) result (rest cursor.new)) }
     ensures text { text_of cursor.new ≡ text_of cursor.old }
 {
-    let mut all = no_conds();
-    for i in 0..4usize {
-        let c = cond(cursor)?;
-        all = with_cond(all, c);
+    let mut all = Conds::new();
+    for _ in 0..4usize {
+        all.push(cond(cursor)?);
         if !cursor.sees(Terminal::Comma) {
             return Ok(all);
         }
@@ -145,6 +144,6 @@ pub fn opt_cond_list<'a>(cursor: &mut Cursor<'a>) -> Result<Conds, Stop>
     if sees_cond(cursor) {
         cond_list(cursor)
     } else {
-        Ok(no_conds())
+        Ok(Conds::new())
     }
 }

@@ -6,4 +6,4 @@ mod selections;
 mod tree;
 
 pub use selections::conditions;
-pub use tree::{Cond, Conds, Oper, Selection, Selections, item, no_selections};
+pub use tree::{Cond, Conds, Oper, Selection, Selections};

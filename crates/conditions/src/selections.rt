@@ -5,7 +5,7 @@ ghost use Rattle.cursor.specs.Reading.{shown, rest, Reading, text_of};
 ghost use Rattle.conditions.specs.Shown.{conds_of, selection_of, selections_of};
 
 use super::conds::opt_cond_list;
-use super::tree::{Conds, Selection, Selections, no_selections, with_selection};
+use super::tree::{Conds, Selection, Selections};
 use cursor::{Cursor, Stop};
 use words::Terminal;
 
@@ -55,10 +55,9 @@ fn sel_condition_list<'a>(cursor: &mut Cursor<'a>) -> Result<Selections, Stop>
     ensures reads { Reading G.SelConditionList (rest cursor.old) (shown (selections_of (text_of cursor.old)) result (rest cursor.new)) }
     ensures text { text_of cursor.new ≡ text_of cursor.old }
 {
-    let mut all = no_selections();
-    for i in 0..4usize {
-        let s = sel_condition(cursor)?;
-        all = with_selection(all, s);
+    let mut all = Selections::new();
+    for _ in 0..4usize {
+        all.push(sel_condition(cursor)?);
         if !cursor.sees(Terminal::And) {
             return Ok(all);
         }
@@ -78,6 +77,6 @@ pub fn conditions<'a>(cursor: &mut Cursor<'a>) -> Result<Selections, Stop>
     if cursor.sees_either(Terminal::OpenSquare, Terminal::Identifier) {
         sel_condition_list(cursor)
     } else {
-        Ok(no_selections())
+        Ok(Selections::new())
     }
 }

@@ -1,12 +1,13 @@
 // The conditions of a rule as they are read, by places in the rule text.
-ghost use Rattle.std.specs.Prelude.{◌≡◌, ℕ, ◌+◌, ◌<◌, List, [], ◌∷◌, ◌++◌, take};
-ghost use Rattle.conditions.specs.Shown.{conds_of, cond_of, selections_of, selection_of, cond_items, selection_items};
-ghost use Rattle.std.specs.List.{slice_get};
 
+ghost use Rattle.std.specs.Prelude.{◌≡◌};
+ghost use Rattle.conditions.specs.declared.tree.Cond.TheVariants as Cond;
+ghost use Rattle.conditions.specs.declared.tree.Oper.TheVariants as Oper;
+
+use arrayvec::ArrayVec;
 use cursor::Piece;
-use words::Terminal;
 
-#[derive(Clone, Copy)]
+#[derive(Clone, Copy, PartialEq, Eq, Debug)]
 pub enum Oper {
     Equal,
     NotEqual,
@@ -15,112 +16,30 @@ pub enum Oper {
 }
 
 // The second pair of a condition on a value is that on its value type.
-#[derive(Clone, Copy)]
-pub enum Cond {
-    Type(Oper, Piece),
-    Value(Oper, Piece, Oper, Piece),
+// A word is held as W: by its places in the text where it is read.
+#[derive(Clone, Copy, PartialEq, Eq, Debug)]
+pub enum Cond<W> {
+    Type(Oper, W),
+    Value(Oper, W, Oper, W),
+}
+
+// What an unused place of a list holds; no case of the enum stands without a word.
+impl<W: Default> Default for Cond<W> {
+    ghost is_default = { λ c. (w : W) × W.is_default w × (c ≡ Cond.Type Oper.Equal w) };
+
+    fn default() -> Self {
+        Cond::Type(Oper::Equal, W::default())
+    }
 }
 
 // At most four conditions.
-#[derive(Clone, Copy)]
-pub struct Conds {
-    pub items: [Cond; 4],
-    pub len: usize,
-}
+pub type Conds = ArrayVec<Cond<Piece>, 4>;
 
-#[derive(Clone, Copy)]
+#[derive(Default, Drop)]
 pub struct Selection {
     pub name: Option<Piece>,
     pub conds: Conds,
 }
 
 // At most four selections.
-#[derive(Clone, Copy)]
-pub struct Selections {
-    pub items: [Selection; 4],
-    pub len: usize,
-}
-
-// The item of a number from 0 among the first of the slots, or none past the last.
-pub fn item<T: Copy>(slots: &[T], len: usize, n: usize) -> Option<T>
-    ensures { result ≡ slice_get (take len slots.now) n }
-{
-    if n < len && n < slots.len() {
-        Some(slots[n])
-    } else {
-        None
-    }
-}
-
-impl Conds {
-    // The condition of a number from 0, or none past the last.
-    pub fn get(&self, n: usize) -> Option<Cond>
-        ensures { result ≡ slice_get (cond_items self.now) n }
-    {
-        item(&self.items, self.len, n)
-    }
-}
-
-impl Selections {
-    // The selection of a number from 0, or none past the last.
-    pub fn get(&self, n: usize) -> Option<Selection>
-        ensures { result ≡ slice_get (selection_items self.now) n }
-    {
-        item(&self.items, self.len, n)
-    }
-}
-
-fn no_piece() -> Piece {
-    Piece {
-        terminal: Terminal::Literal,
-        at: 0,
-        from: 0,
-        len: 0,
-    }
-}
-
-pub fn no_conds() -> Conds
-    ensures items { (us : List ℕ) → conds_of us result ≡ [] }
-    ensures len { result.len ≡ 0 }
-{
-    Conds {
-        items: [Cond::Type(Oper::Equal, no_piece()); 4],
-        len: 0,
-    }
-}
-
-pub fn with_cond(conds: Conds, c: Cond) -> Conds
-    requires { conds.len < 4 }
-    ensures items { (us : List ℕ) → conds_of us result ≡ conds_of us conds ++ (cond_of us c ∷ []) }
-    ensures len { result.len ≡ conds.len + 1 }
-{
-    let mut items = conds.items;
-    let n = conds.len;
-    items[n] = c;
-    Conds { items, len: n + 1 }
-}
-
-pub fn no_selections() -> Selections
-    ensures items { (us : List ℕ) → selections_of us result ≡ [] }
-    ensures len { result.len ≡ 0 }
-{
-    let none = Selection {
-        name: None,
-        conds: no_conds(),
-    };
-    Selections {
-        items: [none; 4],
-        len: 0,
-    }
-}
-
-pub fn with_selection(selections: Selections, s: Selection) -> Selections
-    requires { selections.len < 4 }
-    ensures items { (us : List ℕ) → selections_of us result ≡ selections_of us selections ++ (selection_of us s ∷ []) }
-    ensures len { result.len ≡ selections.len + 1 }
-{
-    let mut items = selections.items;
-    let n = selections.len;
-    items[n] = s;
-    Selections { items, len: n + 1 }
-}
+pub type Selections = ArrayVec<Selection, 4>;

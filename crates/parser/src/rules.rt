@@ -5,13 +5,13 @@ ghost use Rattle.grammar.specs.Readers.{next};
 ghost use Rattle.cursor.specs.Reading.{shown, rest, Reading, text_of};
 ghost use Rattle.parser.specs.Shown.{body_of, rule_of, rules_of};
 
-use super::tree::{Rule, Rules, no_rules, push_rule};
-use actions::{Action, rule_action};
+use super::tree::{Rule, Rules};
+use actions::{ActionRead, rule_action};
 use conditions::{Selections, conditions};
 use cursor::{Cursor, Stop};
 use words::Terminal;
 
-fn rule_body<'a>(cursor: &mut Cursor<'a>) -> Result<(Selections, Action), Stop>
+fn rule_body<'a>(cursor: &mut Cursor<'a>) -> Result<(Selections, ActionRead), Stop>
     ensures reads { Reading G.RuleBody (rest cursor.old) (shown (body_of (text_of cursor.old)) result (rest cursor.new)) }
     ensures text { text_of cursor.new ≡ text_of cursor.old }
 {
@@ -46,13 +46,12 @@ pub fn rules<'a>(cursor: &mut Cursor<'a>) -> Result<Rules, Stop>
     ensures reads { Reading G.RuleSet (rest cursor.old) (shown (rules_of (text_of cursor.old)) result (rest cursor.new)) }
     ensures text { text_of cursor.new ≡ text_of cursor.old }
 {
-    let mut all = no_rules();
-    for i in 0..32usize {
+    let mut all = Rules::new();
+    for _ in 0..32usize {
         if !begins_rule(cursor) {
             return Ok(all);
         }
-        let r = rule(cursor)?;
-        push_rule(&mut all, r);
+        all.push(rule(cursor)?);
     }
     if begins_rule(cursor) {
         Err(Stop::Past)

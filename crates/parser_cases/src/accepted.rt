@@ -2,59 +2,52 @@
 use super::wide::{parsed, repeated, told};
 use actions::Action;
 use conditions::Cond;
-use parser::Rule;
 
 #[test]
 fn how_many_rules(rt: HostRuntime) {
-    assert_eq!(rt; told(b""), (0, 0));
-    assert_eq!(rt; told(b" \n\t\r"), (0, 0));
-    assert_eq!(rt; told(b"C1:[]=> ISSUE(Claim=C1);"), (0, 1));
+    assert_eq!(rt; told(b""), Ok(0));
+    assert_eq!(rt; told(b" \n\t\r"), Ok(0));
+    assert_eq!(rt; told(b"C1:[]=> ISSUE(Claim=C1);"), Ok(1));
     assert_eq!(rt;
         told(b"C1:[type != \"Type1\"] => ISSUE (Claim = C1);"),
-        (0, 1)
+        Ok(1)
     );
     assert_eq!(rt;
         told(b"a:[]&&[]&&[]&&b:[]=>issue(claim=a);=>issue(claim=a);"),
-        (0, 2)
+        Ok(2)
     );
-    assert_eq!(rt; repeated(b"=>issue(claim=a);", 32, 32), (0, 32));
+    assert_eq!(rt; repeated(b"=>issue(claim=a);", 32, 32), Ok(32));
 }
 
 #[test]
 fn every_order_of_an_assignment(rt: HostRuntime) {
     assert_eq!(rt;
         told(b"=> issue(type=\"a\", value=\"0\", valuetype=\"Boolean\");"),
-        (0, 1)
+        Ok(1)
     );
     assert_eq!(rt;
         told(b"=> issue(type=\"a\", valuetype=\"int64\", value=\"0\");"),
-        (0, 1)
+        Ok(1)
     );
     assert_eq!(rt;
         told(b"=> issue(value=c.value, valuetype=c.valuetype, type=c.type);"),
-        (0, 1)
+        Ok(1)
     );
     assert_eq!(rt;
         told(b"=> issue(valuetype=c.valuetype, value=\"string\", type=\"uint64\");"),
-        (0, 1)
+        Ok(1)
     );
 }
 
 // The place of the first condition's right side, where its units lie, and the place of the claim that is copied.
 fn places(text: &[u8]) -> Option<(u16, u16, u16, u16)> {
-    let rule = first_rule(text)?;
-    match (rule.selections.get(0)?.conds.get(0)?, rule.action) {
+    let rules = parsed(text).ok()?;
+    let rule = rules.first()?;
+    match (rule.selections.first()?.conds.first()?, rule.action) {
         (Cond::Type(_, right), Action::Copy(claim)) => {
             Some((right.at, right.from, right.len, claim.at))
         }
         _ => None,
-    }
-}
-
-fn first_rule(text: &[u8]) -> Option<Rule> {
-    match parsed(text) {
-        Ok(rules) => rules.get(0),
-        Err(_) => None,
     }
 }
 

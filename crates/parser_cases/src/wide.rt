@@ -1,50 +1,42 @@
 // Texts in ASCII as units, and what is told of them.
+use faults::{Cause, Fault};
 use parser::{Rules, parse};
 
+// Each byte is the second of its unit, and the first is 0.
 fn widen(text: &[u8], wide: &mut [u8]) {
-    for i in 0..text.len() {
-        if 2 * i + 1 < wide.len() {
-            wide[2 * i + 1] = text[i];
-        }
+    for (unit, byte) in wide.chunks_exact_mut(2).zip(text) {
+        unit[1] = *byte;
     }
 }
 
-// The rules, or the number and the place of the fault.
-pub fn parsed(text: &[u8]) -> Result<Rules, (u8, u16)> {
+// The rules, or the fault.
+pub fn parsed(text: &[u8]) -> Result<Rules, Fault> {
     let mut wide = [0u8; 2048];
     if text.len() > 1024 {
-        return Err((0, 0));
+        return Err(Fault::at(Cause::TextTooLong, 0));
     }
     widen(text, &mut wide);
     let end = 2 * text.len();
-    match parse(&wide[..end]) {
-        Ok(rules) => Ok(rules),
-        Err(fault) => Err((fault.cause.number(), fault.place)),
-    }
+    parse(&wide[..end])
 }
 
-// The number and the place of the fault, or 0 and how many rules there are.
-pub fn told(text: &[u8]) -> (u8, usize) {
-    match parsed(text) {
-        Ok(rules) => (0, rules.len),
-        Err((number, place)) => (number, usize::from(place)),
-    }
+// How many rules there are, or the fault.
+pub fn told(text: &[u8]) -> Result<usize, Fault> {
+    Ok(parsed(text)?.len())
 }
 
 fn repeat(rule: &[u8], text: &mut [u8]) {
-    for i in 0..text.len() {
-        if !rule.is_empty() {
-            text[i] = rule[i % rule.len()];
-        }
+    for (byte, from) in text.iter_mut().zip(rule.iter().cycle()) {
+        *byte = *from;
     }
 }
 
 // A text of as many equal rules, and a last word.
-pub fn repeated(rule: &[u8], times: usize, last: u8) -> (u8, usize) {
+pub fn repeated(rule: &[u8], times: usize, last: u8) -> Result<usize, Fault> {
     let mut text = [0u8; 1024];
     let end = rule.len().saturating_mul(times);
     if end >= 1024 {
-        return (0, 0);
+        return Err(Fault::at(Cause::TextTooLong, 0));
     }
     repeat(rule, &mut text);
     text[end] = last;

@@ -7,53 +7,32 @@ ghost use Rattle.std.specs.Prelude.{◌≡◌};
 ghost use Rattle.units.specs.Units.{units};
 ghost use Rattle.parts.specs.Says.{quoted_units};
 
-use conditions::Oper;
+use actions::Action;
+use conditions::Cond;
 use units::run_of;
 
 // A quoted word: the place of its opening quote, and how many units stand between the quotes.
-#[derive(Clone, Copy)]
+#[derive(Clone, Copy, PartialEq, Eq, Debug, Default)]
 pub struct Quoted {
     pub at: u16,
     pub len: u16,
 }
 
 // An identifier: its place, and the number of the selection that has it.
-#[derive(Clone, Copy)]
+#[derive(Clone, Copy, PartialEq, Eq, Debug, Default)]
 pub struct Reference {
     pub at: u16,
     pub selection: u16,
 }
 
-// The second pair of a condition on a value is that on its value type.
-#[derive(Clone, Copy)]
-pub enum Cond {
-    Type(Oper, Quoted),
-    Value(Oper, Quoted, Oper, Quoted),
-}
-
-#[derive(Clone, Copy)]
-pub enum Expr {
-    Literal(Quoted),
-    ValueType(Quoted),
-    TypeOf(Reference),
-    ValueOf(Reference),
-    ValueTypeOf(Reference),
-}
-
-// A new claim has a type, a value and a value type.
-#[derive(Clone, Copy)]
-pub enum Action {
-    Copy(Reference),
-    New(Expr, Expr, Expr),
-}
-
 // A rule has its first place, and is followed by its selections; a selection is followed by its conditions.
-#[derive(Clone, Copy)]
+#[derive(Clone, Copy, PartialEq, Eq, Debug, Default)]
 pub enum Part {
+    #[default]
     Blank,
-    Rule(u16, Action),
+    Rule(u16, Action<Quoted, Reference>),
     Selection,
-    Condition(Cond),
+    Condition(Cond<Quoted>),
 }
 
 // The units of a quoted word.

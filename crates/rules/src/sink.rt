@@ -28,7 +28,7 @@ impl<'a> Sink<'a> {
     pub fn put(&mut self, part: Part)
         ensures { Put (part ∷ []) self.old self.new }
     {
-        if !self.list.push(part) {
+        if self.list.push(part).is_err() {
             self.short = true;
         }
     }
