@@ -1,3 +1,3 @@
 pub mod First
-pub mod Held
+pub mod Numbering
 pub mod Turns

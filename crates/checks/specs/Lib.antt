@@ -1,2 +1,3 @@
 pub mod Earliest
 pub mod Faults
+pub mod Names

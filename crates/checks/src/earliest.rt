@@ -1,21 +1,30 @@
-// The earlier of two faults.
-ghost use Rattle.std.specs.Prelude.{◌≡◌};
+// The earliest of the faults that were noted.
+ghost use Rattle.std.specs.Prelude.{◌≡◌, Some};
 ghost use Rattle.checks.specs.Earliest.{sooner, earlier_of};
 
 use faults::Fault;
 
+// By place, and at one place by number.
 fn is_sooner(g: Fault, f: Fault) -> bool
     ensures { result ≡ sooner g f }
 {
-    g.place < f.place || (g.place == f.place && g.cause.number() < f.cause.number())
+    (g.place, g.cause.number()) < (f.place, f.cause.number())
 }
 
-// The known fault stays unless the new one comes before it.
-pub fn earlier(known: Option<Fault>, fault: Fault) -> Fault
-    ensures { result ≡ earlier_of known fault }
-{
-    match known {
-        Some(f) => { if is_sooner(fault, f) { fault } else { f } }
-        None => fault,
+// None while no fault is known.
+#[derive(Clone, Copy)]
+pub struct Earliest {
+    pub known: Option<Fault>,
+}
+
+impl Earliest {
+    // The known fault stays unless the new one comes before it.
+    pub fn note(&mut self, fault: Fault)
+        ensures { self.new.known ≡ Some (earlier_of self.old.known fault) }
+    {
+        match self.known {
+            Some(known) if !is_sooner(fault, known) => {}
+            _ => self.known = Some(fault),
+        }
     }
 }

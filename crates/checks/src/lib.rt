@@ -7,5 +7,5 @@ mod names;
 mod patterns;
 mod rules;
 
-pub use names::selection_number;
+pub use names::Names;
 pub use rules::rule_fault;

@@ -1,12 +1,12 @@
 // Identifiers, and the selections that have them.
-ghost use Rattle.std.specs.Prelude.{◌≡◌, length, take};
+ghost use Rattle.std.specs.Prelude.{◌≡◌, ◌<◌, take, position, IfSome};
 ghost use Rattle.std.specs.Option.{option_map};
 ghost use Rattle.units.specs.Units.{units};
 ghost use Rattle.cursor.specs.Pieces.{word_of};
-ghost use Rattle.conditions.specs.Shown.{selections_of};
 ghost use Rattle.parts.specs.Resolved.{is_named, numbered};
+ghost use Rattle.checks.specs.Names.{shown};
 
-use conditions::{Selection, Selections};
+use conditions::Selections;
 use cursor::Piece;
 use units::{run_of, same};
 
@@ -20,37 +20,39 @@ pub fn piece_text<'a>(text: &'a [u8], piece: Piece) -> &'a [u8]
 fn has_name(text: &[u8], own: Option<Piece>, name: Piece) -> bool
     ensures { result ≡ is_named (word_of (units text.now) name).text (option_map (word_of (units text.now)) own) }
 {
-    match own {
-        Some(p) => same(piece_text(text, p), piece_text(text, name)),
-        None => false,
+    own.is_some_and(|own| same(piece_text(text, own), piece_text(text, name)))
+}
+
+// The selections of a rule, and the text that their places speak of.
+#[derive(Clone, Copy)]
+pub struct Names<'a> {
+    pub text: &'a [u8],
+    pub selections: &'a Selections,
+}
+
+impl<'a> Names<'a> {
+    // The number from 0 of the first selection that has the identifier.
+    pub fn number_of(&self, name: Piece) -> Option<u16>
+        ensures { result ≡ numbered (shown self.now) (word_of (units self.now.text.now) name).text }
+    {
+        self.number_among(self.selections.len(), name)
     }
-}
 
-// The number from 0 of the first selection that has the identifier, among so many.
-pub fn number_among(text: &[u8], selections: &Selections, many: u16, name: Piece) -> Option<u16>
-    ensures { result ≡ numbered (take many (selections_of (units text.now) selections.now)) (word_of (units text.now) name).text }
-{
-    for i in 0..many {
-        let Some(selection) = selections.get(usize::from(i)) else {
-            return None;
-        };
-        if has_name(text, selection.name, name) {
-            return Some(i);
-        }
+    // The same among the first selections only, of this number.
+    pub(crate) fn number_among(&self, many: usize, name: Piece) -> Option<u16>
+        ensures { result ≡ numbered (take many (shown self.now)) (word_of (units self.now.text.now) name).text }
+    {
+        let place = self.place_among(many, name)?;
+        Some(place as u16)
     }
-    None
-}
 
-// How many selections there is room for.
-pub fn room(slots: &[Selection; 4]) -> u16
-    ensures { result ≡ length slots.now }
-{
-    4
-}
-
-// The number from 0 of the first selection that has the identifier.
-pub fn selection_number(text: &[u8], selections: &Selections, name: Piece) -> Option<u16>
-    ensures { result ≡ numbered (selections_of (units text.now) selections.now) (word_of (units text.now) name).text }
-{
-    number_among(text, selections, room(&selections.items), name)
+    fn place_among(&self, many: usize, name: Piece) -> Option<usize>
+        ensures value { result ≡ position (λ s. is_named (word_of (units self.now.text.now) name).text (option_map (word_of (units self.now.text.now)) s.name)) (take many self.now.selections.now.items) }
+        ensures bound { IfSome result (λ i. i < 4) }
+    {
+        self.selections
+            .iter()
+            .take(many)
+            .position(|selection| has_name(self.text, selection.name, name))
+    }
 }

@@ -7,7 +7,7 @@ ghost use Rattle.pattern.specs.Caused.{cause_of_pattern};
 ghost use Rattle.checks.specs.Earliest.{earliest_from};
 ghost use Rattle.checks.specs.Faults.{caused_at, side_faults, cond_faults, conds_faults};
 
-use super::earliest::earlier;
+use super::earliest::Earliest;
 use super::names::piece_text;
 use conditions::{Cond, Conds, Oper};
 use cursor::Piece;
@@ -17,50 +17,42 @@ use faults::{Cause, Fault};
 fn pattern_cause(text: &[u8], word: Piece) -> Option<Cause>
     ensures { result ≡ cause_of_pattern (word_of (units text.now) word).text }
 {
-    match pattern::read(piece_text(text, word)) {
-        Ok(_) => None,
-        Err(cause) => Some(cause),
-    }
+    pattern::read(piece_text(text, word)).err()
 }
 
-fn with_pattern(text: &[u8], word: Piece, known: Option<Fault>) -> Option<Fault>
-    ensures { result ≡ earliest_from known (caused_at (cause_of_pattern (word_of (units text.now) word).text) word.at) }
+fn note_pattern(text: &[u8], word: Piece, earliest: &mut Earliest)
+    ensures { earliest.new.known ≡ earliest_from earliest.old.known (caused_at (cause_of_pattern (word_of (units text.now) word).text) word.at) }
 {
-    match pattern_cause(text, word) {
-        Some(cause) => Some(earlier(known, Fault::at(cause, word.at))),
-        None => known,
+    if let Some(cause) = pattern_cause(text, word) {
+        earliest.note(Fault::at(cause, word.at));
     }
 }
 
-fn with_side(text: &[u8], oper: Oper, word: Piece, known: Option<Fault>) -> Option<Fault>
-    ensures { result ≡ earliest_from known (side_faults (oper_of (units text.now) oper) (word_of (units text.now) word)) }
+fn note_side(text: &[u8], oper: Oper, word: Piece, earliest: &mut Earliest)
+    ensures { earliest.new.known ≡ earliest_from earliest.old.known (side_faults (oper_of (units text.now) oper) (word_of (units text.now) word)) }
 {
     match oper {
-        Oper::Equal | Oper::NotEqual => known,
-        Oper::Matches | Oper::NotMatches => with_pattern(text, word, known),
+        Oper::Equal | Oper::NotEqual => {}
+        Oper::Matches | Oper::NotMatches => note_pattern(text, word, earliest),
     }
 }
 
-fn with_cond(text: &[u8], cond: Cond, known: Option<Fault>) -> Option<Fault>
-    ensures { result ≡ earliest_from known (cond_faults (cond_of (units text.now) cond)) }
+fn note_cond(text: &[u8], cond: Cond<Piece>, earliest: &mut Earliest)
+    ensures { earliest.new.known ≡ earliest_from earliest.old.known (cond_faults (cond_of (units text.now) cond)) }
 {
     match cond {
-        Cond::Type(oper, word) => with_side(text, oper, word, known),
+        Cond::Type(oper, word) => note_side(text, oper, word, earliest),
         Cond::Value(oper, word, type_oper, type_word) => {
-            let so_far = with_side(text, oper, word, known);
-            with_side(text, type_oper, type_word, so_far)
+            note_side(text, oper, word, earliest);
+            note_side(text, type_oper, type_word, earliest);
         }
     }
 }
 
-pub fn with_conds(text: &[u8], conds: &Conds, known: Option<Fault>) -> Option<Fault>
-    ensures { result ≡ earliest_from known (conds_faults (conds_of (units text.now) conds.now)) }
+pub fn note_conds(text: &[u8], conds: &Conds, earliest: &mut Earliest)
+    ensures { earliest.new.known ≡ earliest_from earliest.old.known (conds_faults (conds_of (units text.now) conds.now)) }
 {
-    let mut so_far = known;
-    for i in 0..conds.len {
-        if let Some(cond) = conds.get(i) {
-            so_far = with_cond(text, cond, so_far);
-        }
+    for cond in conds.iter() {
+        note_cond(text, *cond, earliest);
     }
-    so_far
 }

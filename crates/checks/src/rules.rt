@@ -3,110 +3,78 @@ ghost use Rattle.std.specs.Prelude.{◌≡◌, [], ◌++◌, take};
 ghost use Rattle.std.specs.Option.{option_map};
 ghost use Rattle.units.specs.Units.{units};
 ghost use Rattle.cursor.specs.Pieces.{word_of};
-ghost use Rattle.conditions.specs.Shown.{selection_of, selections_of};
+ghost use Rattle.conditions.specs.Shown.{selection_of};
 ghost use Rattle.actions.specs.Shown.{expr_of, action_of};
 ghost use Rattle.parser.specs.Shown.{rule_of};
-ghost use Rattle.checks.specs.Earliest.{earliest_from, known_faults, Earliest};
+ghost use Rattle.checks.specs.Earliest.{earliest_from, known_faults, Earliest as EarliestOf};
 ghost use Rattle.checks.specs.Faults.{name_faults, selection_faults, selections_faults, reference_faults, expr_faults, action_faults, rule_faults};
+ghost use Rattle.checks.specs.Names.{shown};
 
-use super::earliest::earlier;
-use super::names::{number_among, room, selection_number};
-use super::patterns::with_conds;
-use actions::{Action, Expr};
-use conditions::{Selection, Selections};
+use super::earliest::Earliest;
+use super::names::Names;
+use super::patterns::note_conds;
+use actions::{Action, ActionRead, Expr, ExprRead};
+use conditions::Selection;
 use cursor::Piece;
 use faults::{Cause, Fault};
 use parser::Rule;
 
 // An identifier that one of so many earlier selections has is repeated.
-fn with_name(
-    text: &[u8],
-    selections: &Selections,
-    earlier_ones: u16,
-    own: Option<Piece>,
-    known: Option<Fault>,
-) -> Option<Fault>
-    ensures { result ≡ earliest_from known (name_faults (take earlier_ones (selections_of (units text.now) selections.now)) (option_map (word_of (units text.now)) own)) }
+fn note_name(names: &Names<'_>, earlier: usize, own: Option<Piece>, earliest: &mut Earliest)
+    ensures { earliest.new.known ≡ earliest_from earliest.old.known (name_faults (take earlier (shown names.now)) (option_map (word_of (units names.now.text.now)) own)) }
 {
     let Some(name) = own else {
-        return known;
+        return;
     };
-    match number_among(text, selections, earlier_ones, name) {
-        Some(_) => Some(earlier(known, Fault::at(Cause::RepeatedIdentifier, name.at))),
-        None => known,
+    if names.number_among(earlier, name).is_some() {
+        earliest.note(Fault::at(Cause::RepeatedIdentifier, name.at));
     }
 }
 
-fn with_selection(
-    text: &[u8],
-    selections: &Selections,
-    earlier_ones: u16,
-    selection: Selection,
-    known: Option<Fault>,
-) -> Option<Fault>
-    ensures { result ≡ earliest_from known (selection_faults (take earlier_ones (selections_of (units text.now) selections.now)) (selection_of (units text.now) selection)) }
+fn note_selection(names: &Names<'_>, earlier: usize, selection: &Selection, earliest: &mut Earliest)
+    ensures { earliest.new.known ≡ earliest_from earliest.old.known (selection_faults (take earlier (shown names.now)) (selection_of (units names.now.text.now) selection.now)) }
 {
-    let so_far = with_name(text, selections, earlier_ones, selection.name, known);
-    with_conds(text, &selection.conds, so_far)
+    note_name(names, earlier, selection.name, earliest);
+    note_conds(names.text, &selection.conds, earliest);
 }
 
-fn with_selections(text: &[u8], selections: &Selections, known: Option<Fault>) -> Option<Fault>
-    ensures { result ≡ earliest_from known (selections_faults [] (selections_of (units text.now) selections.now)) }
+fn note_selections(names: &Names<'_>, earliest: &mut Earliest)
+    ensures { earliest.new.known ≡ earliest_from earliest.old.known (selections_faults [] (shown names.now)) }
 {
-    let mut so_far = known;
-    for i in 0..room(&selections.items) {
-        if let Some(selection) = selections.get(usize::from(i)) {
-            so_far = with_selection(text, selections, i, selection, so_far);
-        }
+    for (i, selection) in names.selections.iter().enumerate() {
+        note_selection(names, i, selection, earliest);
     }
-    so_far
 }
 
 // An identifier of the action that no selection has is unknown.
-fn with_reference(
-    text: &[u8],
-    selections: &Selections,
-    name: Piece,
-    known: Option<Fault>,
-) -> Option<Fault>
-    ensures { result ≡ earliest_from known (reference_faults (selections_of (units text.now) selections.now) (word_of (units text.now) name)) }
+fn note_reference(names: &Names<'_>, name: Piece, earliest: &mut Earliest)
+    ensures { earliest.new.known ≡ earliest_from earliest.old.known (reference_faults (shown names.now) (word_of (units names.now.text.now) name)) }
 {
-    match selection_number(text, selections, name) {
-        Some(_) => known,
-        None => Some(earlier(known, Fault::at(Cause::UnknownIdentifier, name.at))),
+    if names.number_of(name).is_none() {
+        earliest.note(Fault::at(Cause::UnknownIdentifier, name.at));
     }
 }
 
-fn with_expr(
-    text: &[u8],
-    selections: &Selections,
-    expr: Expr,
-    known: Option<Fault>,
-) -> Option<Fault>
-    ensures { result ≡ earliest_from known (expr_faults (selections_of (units text.now) selections.now) (expr_of (units text.now) expr)) }
+fn note_expr(names: &Names<'_>, expr: ExprRead, earliest: &mut Earliest)
+    ensures { earliest.new.known ≡ earliest_from earliest.old.known (expr_faults (shown names.now) (expr_of (units names.now.text.now) expr)) }
 {
     match expr {
-        Expr::Literal(_) | Expr::ValueType(_) => known,
-        Expr::TypeOf(name) | Expr::ValueOf(name) | Expr::ValueTypeOf(name) => with_reference(
-            text, selections, name, known,
-        ),
+        Expr::Literal(_) | Expr::ValueType(_) => {}
+        Expr::TypeOf(name) | Expr::ValueOf(name) | Expr::ValueTypeOf(name) => {
+            note_reference(names, name, earliest);
+        }
     }
 }
 
-fn with_action(
-    text: &[u8],
-    selections: &Selections,
-    action: Action,
-    known: Option<Fault>,
-) -> Option<Fault>
-    ensures { result ≡ earliest_from known (action_faults (selections_of (units text.now) selections.now) (action_of (units text.now) action)) }
+fn note_action(names: &Names<'_>, action: ActionRead, earliest: &mut Earliest)
+    ensures { earliest.new.known ≡ earliest_from earliest.old.known (action_faults (shown names.now) (action_of (units names.now.text.now) action)) }
 {
     match action {
-        Action::Copy(name) => with_reference(text, selections, name, known),
+        Action::Copy(name) => note_reference(names, name, earliest),
         Action::New(claim_type, value, value_type) => {
-            let so_far = with_expr(text, selections, claim_type, known);
-            let so_far = with_expr(text, selections, value, so_far);
-            with_expr(text, selections, value_type, so_far)
+            note_expr(names, claim_type, earliest);
+            note_expr(names, value, earliest);
+            note_expr(names, value_type, earliest);
         }
     }
 }
@@ -114,8 +82,14 @@ fn with_action(
 // The earliest of the fault known so far and the faults of the rule.
 pub fn rule_fault(text: &[u8], rule: &Rule, known: Option<Fault>) -> Option<Fault>
     ensures value { result ≡ earliest_from known (rule_faults (rule_of (units text.now) rule.now)) }
-    ensures earliest { Earliest (known_faults known ++ rule_faults (rule_of (units text.now) rule.now)) result }
+    ensures earliest { EarliestOf (known_faults known ++ rule_faults (rule_of (units text.now) rule.now)) result }
 {
-    let so_far = with_selections(text, &rule.selections, known);
-    with_action(text, &rule.selections, rule.action, so_far)
+    let names = Names {
+        text,
+        selections: &rule.selections,
+    };
+    let mut earliest = Earliest { known };
+    note_selections(&names, &mut earliest);
+    note_action(&names, rule.action, &mut earliest);
+    earliest.known
 }

@@ -1,4 +1,3 @@
-pub mod Short
 pub mod Expecting
 pub mod Many
 pub mod Items

@@ -5,7 +5,8 @@ use Rattle.faults.specs.At.{fault_at}
 use Rattle.faults.specs.declared.Cause.TheVariants.{OverLimit}
 use Rattle.faults.specs.declared.Fault.{Fault}
 use Rattle.words.specs.Words.{Word}
-use Rattle.grammar.specs.Readers.{Got, got, useless, past, Reads, first_place}
+use Rattle.words.specs.declared.terminals.Terminal.{Terminal}
+use Rattle.grammar.specs.Readers.{Got, got, useless, past, Reads, ◌starts◌else◌, stop, t, first_place}
 use Rattle.grammar.specs.Whole.{fault_from}
 use Rattle.cursor.specs.Ahead.{short, ahead_words}
 use Rattle.cursor.specs.declared.cursor.Cursor.{Cursor}
@@ -32,6 +33,12 @@ shown f (Err e) ws = stopped e ws
 -- the production p gives g of these words
 pub record Reading {A : Type 0} (p : Reads A) (ws : List Word) (g : Got A) : Type 0 where
   pub so : g ≡ p ws
+
+-- one word, which is one of these terminals
+abbrev pub any_of : List Terminal → Reads Word
+any_of [] = stop
+any_of (k ∷ []) = t k
+any_of (k ∷ j ∷ ks) = (k ∷ []) starts t k else any_of (j ∷ ks)
 
 -- the fault at a stop, in a text of so many units
 abbrev pub fault_of : ℕ → Stop → List Word → Fault

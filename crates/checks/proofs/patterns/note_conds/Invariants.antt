@@ -1,0 +1,10 @@
+use Rattle.std.proofs.Common.{◌≡◌, drop}
+use Rattle.units.specs.Units.{units}
+use Rattle.conditions.specs.Shown.{conds_of}
+use Rattle.checks.specs.Earliest.{earliest_from}
+use Rattle.checks.specs.Faults.{conds_faults}
+use Rattle.checks.proofs.patterns.note_conds.Given as goal
+
+abbrev pub invariant-loop-cond : goal.invariant-loop-cond
+invariant-loop-cond l =
+    earliest_from l.earliest.known (conds_faults (drop l.cond-index (conds_of (units l.text) l.conds))) ≡ earliest_from l.initial.earliest.known (conds_faults (conds_of (units l.text) l.conds))
