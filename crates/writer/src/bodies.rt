@@ -7,34 +7,35 @@ ghost use Rattle.writer.specs.Writing.{written};
 use super::fields::write_claim;
 use super::fits::is_writable;
 use super::shown::claim_size;
-use claims::Source;
+use claims::{Source, Texts};
 
 // The bytes that the claims take; none where one of them cannot be carried.
-pub fn body_size<S: Source>(source: &S, rules: &[u8], packet: &[u8]) -> Option<usize>
-    ensures { Measured rules.now packet.now (S.Source.list source.now) result }
+pub fn body_size<S: Source>(source: &S, texts: &Texts) -> Option<usize>
+    ensures { Measured texts.now.rules.now texts.now.packet.now (S.Source.list source.now) result }
 {
     let mut sum = 0;
     for i in 0..source.count() {
         let Some(claim) = source.claim_at(i) else {
             return None;
         };
-        if !is_writable(claim, rules, packet) {
+        if !is_writable(claim, texts) {
             return None;
         }
-        sum += claim_size(claim, rules, packet);
+        sum += claim_size(claim, texts);
     }
     Some(sum)
 }
 
-pub fn write_body<S: Source>(source: &S, rules: &[u8], packet: &[u8], out: &mut [u8])
-    requires { (AllByRecursion (Writable rules.now packet.now) (S.Source.list source.now)) × (3 + length (shown_body rules.now packet.now (S.Source.list source.now)) ≤ length out.old) }
-    ensures { out.new ≡ written out.old 3 (shown_body rules.now packet.now (S.Source.list source.now)) }
+pub fn write_body<S: Source>(source: &S, texts: &Texts, out: &mut [u8])
+    requires writable { AllByRecursion (Writable texts.now.rules.now texts.now.packet.now) (S.Source.list source.now) }
+    requires room { 3 + length (shown_body texts.now.rules.now texts.now.packet.now (S.Source.list source.now)) ≤ length out.old }
+    ensures { out.new ≡ written out.old 3 (shown_body texts.now.rules.now texts.now.packet.now (S.Source.list source.now)) }
 {
     let mut at = 3;
     for i in 0..source.count() {
         let Some(claim) = source.claim_at(i) else {
             return;
         };
-        at = write_claim(out, at, claim, rules, packet);
+        at = write_claim(out, at, claim, texts);
     }
 }

@@ -8,12 +8,14 @@ ghost use Rattle.writer.specs.Shown.{shown_text, shown_value, shown_claim, TextF
 ghost use Rattle.writer.specs.Writing.{written};
 
 use super::shown::bytes_of;
-use claims::{Claim, Text, Value};
+use claims::{Claim, Text, Texts, Value};
 use units::count;
 
 // The count of a text's units, and its bytes.
 fn write_text(out: &mut [u8], at: usize, text: &[u8]) -> usize
-    requires { (length text.now ≡ 2 * length (units text.now)) × ((length (units text.now) ≤ 255) × (at + 1 + length text.now ≤ length out.old)) }
+    requires even { length text.now ≡ 2 * length (units text.now) }
+    requires few { length (units text.now) ≤ 255 }
+    requires room { at + 1 + length text.now ≤ length out.old }
     ensures place { result ≡ at + length (encode_text (units text.now)) }
     ensures bytes { out.new ≡ written out.old at (encode_text (units text.now)) }
 {
@@ -24,12 +26,13 @@ fn write_text(out: &mut [u8], at: usize, text: &[u8]) -> usize
     to
 }
 
-fn write_part(out: &mut [u8], at: usize, text: Text, rules: &[u8], packet: &[u8]) -> usize
-    requires { (TextFits rules.now packet.now text) × (at + size_of_text (shown_text rules.now packet.now text) ≤ length out.old) }
-    ensures place { result ≡ at + size_of_text (shown_text rules.now packet.now text) }
-    ensures bytes { out.new ≡ written out.old at (encode_text (shown_text rules.now packet.now text)) }
+fn write_part(out: &mut [u8], at: usize, text: Text, texts: &Texts) -> usize
+    requires fits { TextFits texts.now.rules.now texts.now.packet.now text }
+    requires room { at + size_of_text (shown_text texts.now.rules.now texts.now.packet.now text) ≤ length out.old }
+    ensures place { result ≡ at + size_of_text (shown_text texts.now.rules.now texts.now.packet.now text) }
+    ensures bytes { out.new ≡ written out.old at (encode_text (shown_text texts.now.rules.now texts.now.packet.now text)) }
 {
-    write_text(out, at, bytes_of(text, rules, packet))
+    write_text(out, at, bytes_of(texts, text))
 }
 
 // Eight bytes, high byte first.
@@ -43,41 +46,37 @@ fn write_number(out: &mut [u8], at: usize, n: u64) -> usize
     to
 }
 
-fn boolean_byte(b: bool) -> u8
-    ensures { result ≡ (if b then 1 else 0) }
-{
-    if b { 1 } else { 0 }
-}
-
 fn write_boolean(out: &mut [u8], at: usize, b: bool) -> usize
     requires { at + 1 ≤ length out.old }
     ensures place { result ≡ at + 1 }
     ensures bytes { out.new ≡ written out.old at (encode_value (boolean b)) }
 {
-    out[at] = boolean_byte(b);
+    out[at] = u8::from(b);
     at + 1
 }
 
-fn write_value(out: &mut [u8], at: usize, value: Value, rules: &[u8], packet: &[u8]) -> usize
-    requires { (ValueTextFits rules.now packet.now value) × (at + size_of_value (shown_value rules.now packet.now value) ≤ length out.old) }
-    ensures place { result ≡ at + size_of_value (shown_value rules.now packet.now value) }
-    ensures bytes { out.new ≡ written out.old at (encode_value (shown_value rules.now packet.now value)) }
+fn write_value(out: &mut [u8], at: usize, value: Value, texts: &Texts) -> usize
+    requires fits { ValueTextFits texts.now.rules.now texts.now.packet.now value }
+    requires room { at + size_of_value (shown_value texts.now.rules.now texts.now.packet.now value) ≤ length out.old }
+    ensures place { result ≡ at + size_of_value (shown_value texts.now.rules.now texts.now.packet.now value) }
+    ensures bytes { out.new ≡ written out.old at (encode_value (shown_value texts.now.rules.now texts.now.packet.now value)) }
 {
     match value {
         Value::Uint64(n) => write_number(out, at, n),
         Value::Int64(z) => write_number(out, at, z.cast_unsigned()),
-        Value::String(text) => write_part(out, at, text, rules, packet),
+        Value::String(text) => write_part(out, at, text, texts),
         Value::Boolean(b) => write_boolean(out, at, b),
     }
 }
 
 // A claim's bytes, field after field.
-pub fn write_claim(out: &mut [u8], at: usize, claim: Claim, rules: &[u8], packet: &[u8]) -> usize
-    requires { (PartsFit rules.now packet.now claim) × (at + size (shown_claim rules.now packet.now claim) ≤ length out.old) }
-    ensures place { result ≡ at + size (shown_claim rules.now packet.now claim) }
-    ensures bytes { out.new ≡ written out.old at (encode (shown_claim rules.now packet.now claim)) }
+pub fn write_claim(out: &mut [u8], at: usize, claim: Claim, texts: &Texts) -> usize
+    requires fit { PartsFit texts.now.rules.now texts.now.packet.now claim }
+    requires room { at + size (shown_claim texts.now.rules.now texts.now.packet.now claim) ≤ length out.old }
+    ensures place { result ≡ at + size (shown_claim texts.now.rules.now texts.now.packet.now claim) }
+    ensures bytes { out.new ≡ written out.old at (encode (shown_claim texts.now.rules.now texts.now.packet.now claim)) }
 {
-    let word = write_part(out, at, claim.typ, rules, packet);
-    let value = write_part(out, word, claim.word, rules, packet);
-    write_value(out, value, claim.value, rules, packet)
+    let word = write_part(out, at, claim.typ, texts);
+    let value = write_part(out, word, claim.word, texts);
+    write_value(out, value, claim.value, texts)
 }

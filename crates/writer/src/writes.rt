@@ -5,30 +5,25 @@ ghost use Rattle.writer.specs.Rewriting.{Rewrote};
 ghost use Rattle.writer.specs.Writing.{written, Wrote};
 
 use super::bodies::{body_size, write_body};
-use claims::Source;
+use claims::{Source, Texts};
 use faults::{Cause, Fault};
 use packet::Packet;
 
 // The version, and the length of what follows.
 fn write_head(out: &mut [u8], n: usize)
-    requires { (3 ≤ length out.old) × (n ≤ 32765) }
+    requires room { 3 ≤ length out.old }
+    requires short { n ≤ 32765 }
     ensures { out.new ≡ written out.old 0 (head_of n) }
 {
     out[0] = 1;
-    out[1] = (n / 256) as u8;
-    out[2] = (n % 256) as u8;
+    out[1..3].copy_from_slice(&(n as u16).to_be_bytes());
 }
 
 // The claims of a source as a packet at the front of the buffer; answers the packet's length.
-pub fn write<S: Source>(
-    source: &S,
-    rules: &[u8],
-    packet: &[u8],
-    out: &mut [u8],
-) -> Result<usize, Fault>
-    ensures { Wrote rules.now packet.now (S.Source.list source.now) out.old out.new result }
+pub fn write<S: Source>(source: &S, texts: &Texts, out: &mut [u8]) -> Result<usize, Fault>
+    ensures { Wrote texts.now.rules.now texts.now.packet.now (S.Source.list source.now) out.old out.new result }
 {
-    let Some(size) = body_size(source, rules, packet) else {
+    let Some(size) = body_size(source, texts) else {
         return Err(Fault::at(Cause::UncarriableClaim, 0));
     };
     if source.count() > 256 || size > 32765 {
@@ -38,7 +33,7 @@ pub fn write<S: Source>(
         return Err(Fault::at(Cause::BufferTooShort, 0));
     }
     write_head(out, size);
-    write_body(source, rules, packet, out);
+    write_body(source, texts, out);
     Ok(3 + size)
 }
 
@@ -46,7 +41,11 @@ fn write_back(packet: &Packet, bytes: &[u8], out: &mut [u8]) -> Result<usize, Fa
     requires { bytes.now ≡ packet.now.bytes.now }
     ensures { Rewrote bytes.now out.old out.new result }
 {
-    write(packet, b"", bytes, out)
+    let texts = Texts {
+        rules: b"",
+        packet: bytes,
+    };
+    write(packet, &texts, out)
 }
 
 // An accepted packet, written again from its claims: the same bytes.

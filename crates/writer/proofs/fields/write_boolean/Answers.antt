@@ -1,12 +1,17 @@
-use Rattle.std.proofs.Common.{[], ◌∷◌, refl, ap, ◌∙◌, arith}
+use mir.Val.{bool_byte}
+use Rattle.std.proofs.Common.{◌≡◌, Bool, true, false, if◌then◌else◌, [], ◌∷◌, refl, ap, ◌∙◌, arith}
 use Rattle.writer.specs.Writing.{written}
 use Rattle.writer.proofs.Written.{written_set}
 use Rattle.writer.proofs.fields.write_boolean.Goals as goal
+
+byte_of : (b : Bool) → bool_byte b ≡ (if b then 1 else 0)
+byte_of true = refl
+byte_of false = refl
 
 pub returns : goal.returns
 returns c = record {
   place = refl;
   bytes =
-      written_set c.args.out.now c.args.at c.boolean_byte.result (omega arith)
-      ∙ ap (λ b. written c.args.out.now c.args.at (b ∷ [])) c.boolean_byte.ensures;
+      written_set c.args.out.now c.args.at c.from.result (omega arith)
+      ∙ ap (λ b. written c.args.out.now c.args.at (b ∷ [])) (c.from.ensures ∙ byte_of c.args.b);
 }

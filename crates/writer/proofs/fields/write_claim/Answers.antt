@@ -7,8 +7,8 @@ pub returns : goal.returns
 returns c = record {
   place = omega (arith, c.write_part-word.ensures.place, c.write_part-value.ensures.place, c.write_value.ensures.place);
   bytes =
-      written_claim c.args.out.now c.args.at (shown_claim c.args.rules.now c.args.packet.now c.args.claim)
+      written_claim c.args.out.now c.args.at (shown_claim c.args.texts.now.rules.now c.args.texts.now.packet.now c.args.claim)
       c.write_part-word.new.out c.write_part-value.new.out c.write_value.new.out c.write_part-word.result c.write_part-value.result
-      c.requires.1 c.write_part-word.ensures.place c.write_part-value.ensures.place
+      c.requires.room c.write_part-word.ensures.place c.write_part-value.ensures.place
       c.write_part-word.ensures.bytes c.write_part-value.ensures.bytes c.write_value.ensures.bytes;
 }

@@ -7,15 +7,15 @@ use Rattle.writer.proofs.fields.write_part.Goals as goal
 
 pub write_text-requires : goal.write_text-requires
 write_text-requires c =
-    let few = c.requires.0.short.few in
+    let few = c.requires.fits.short.few in
     let u = ap length c.bytes_of.ensures.text in
     let l = c.bytes_of.ensures.even in
-    (l, (omega arith, omega arith))
+    record { even = l; few = omega arith; room = omega arith }
 
 pub returns : goal.returns
 returns c =
     let e = ap encode_text c.bytes_of.ensures.text in
-    let l = length-encode_text (shown_text c.args.rules.now c.args.packet.now c.args.text) in
+    let l = length-encode_text (shown_text c.args.texts.now.rules.now c.args.texts.now.packet.now c.args.text) in
     let k = ap length e in
     record {
       place = omega (arith, c.write_text.ensures.place);

@@ -15,5 +15,5 @@ returns c =
       bytes =
           ap (put_mid (at + 1) (at + 1 + length text - (at + 1)) (set c.args.out.now at c.count.result)) c.copy_from_slice.ensures.after
           ∙ written_text c.args.out.now at c.count.result (at + 1 + length text - (at + 1)) text
-          (All-from_get_or (λ b. b < 256) text 0 (λ i _. (c.type_inv.text i).fits)) c.count.ensures c.requires.0 (omega arith) (omega arith);
+          (All-from_get_or (λ b. b < 256) text 0 (λ i _. (c.type_inv.text i).fits)) c.count.ensures c.requires.even (omega arith) (omega arith);
     }

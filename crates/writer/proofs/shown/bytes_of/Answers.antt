@@ -6,7 +6,7 @@ pub returns-in-Some : goal.returns-in-Some
 returns-in-Some c =
     let e = c.in-Some.ensures.size in
     record {
-      text = shown_part c.args.rules.now c.args.packet.now c.args.text c.in-Some.part.bytes.now c.in-Some.ensures.bytes;
+      text = shown_part c.args.texts.now.rules.now c.args.texts.now.packet.now c.args.text c.in-Some.part.bytes.now c.in-Some.ensures.bytes;
       even = even_units c.in-Some.part.bytes.now c.args.text.len e.0;
       short = omega (arith, e.0, e.1);
     }
