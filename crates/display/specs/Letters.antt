@@ -1,5 +1,6 @@
--- Characters as they are shown: which are hidden behind an escape, and which stand in a bare word.
-use Rattle.std.specs.Prelude.{◌≡◌, ℕ, ◌+◌, ◌≤◌, Bool, not, ◌&&◌, ◌||◌, List, length, take, drop, ◌==◌, nat_le}
+-- Characters as they are shown: which are hidden behind an escape, which stand in a bare word, and how an escape is written.
+use Rattle.std.specs.Prelude.{◌≡◌, ℕ, ◌-◌, ◌^◌, Bool, false, true, not, ◌&&◌, ◌||◌, List, [], ◌∷◌, ◌++◌, Some, None, Option, Ok, Err, Result, codes, ◌==◌, nat_le}
+use Rattle.std.specs.Fmt.{digits, format_spec, padded_integral}
 use Rattle.listing.specs.Letters.{blank, utf16}
 
 -- control characters, line and paragraph separators, marks of direction, and the byte order mark
@@ -10,7 +11,16 @@ hidden c = nat_le c 31 || ((nat_le 127 c && nat_le c 159) || ((nat_le 8206 c && 
 abbrev pub plain : ℕ → Bool
 plain c = not (hidden c) && (not (blank c) && (not (c == 34) && (not (c == 92) && not (c == 35))))
 
--- the character c is what begins at a place of a text
-pub record Letter (us : List ℕ) (i c : ℕ) : Type 0 where
-  pub within : i + length (utf16 c) ≤ length us
-  pub spelt : take (length (utf16 c)) (drop i us) ≡ utf16 c
+-- the units us begin with a character, or with a unit that is part of none, and then come the units vs
+abbrev pub Letter : List ℕ → Result ℕ ℕ → List ℕ → Type 0
+Letter us (Ok c) vs = us ≡ utf16 c ++ vs
+Letter us (Err u) vs = us ≡ u ∷ vs
+
+-- what a step through a text gives: its first letter, or none at its end
+abbrev pub FirstLetter : List ℕ → Option (Result ℕ ℕ) → List ℕ → Type 0
+FirstLetter us None vs = (us ≡ []) × (vs ≡ [])
+FirstLetter us (Some x) vs = Letter us x vs
+
+-- a unit as an escape: four hex digits, the letters among them capitals
+abbrev pub escape : ℕ → List ℕ
+escape u = codes "\\u" ++ padded_integral (format_spec 32 0 4 4 (2 ^ 64 - 1)) false [] (digits 16 true u)

@@ -1,10 +1,13 @@
 // Characters, one by one, as they are shown.
-ghost use Rattle.std.specs.Prelude.{◌≡◌, ◌<◌, [], ◌∷◌, IfSome, Some};
-ghost use Rattle.listing.specs.Letters.{hex_of, utf16};
-ghost use Rattle.display.specs.Letters.{hidden, plain};
+ghost use Rattle.std.specs.Prelude.{◌≡◌, [], ◌∷◌, ◌++◌, IfSome, OnOk, length, string_bytes};
+ghost use Rattle.std.specs.Iterator.{at_most};
+ghost use Rattle.units.specs.Units.{units};
+ghost use Rattle.listing.specs.Letters.{utf16};
+ghost use Rattle.display.specs.Letters.{hidden, plain, escape, FirstLetter};
 
 use listing::is_blank;
 use std::alloc::AllocError;
+use units::Units;
 
 // Would the character be invisible or turn the line? Then an escape stands for it.
 pub fn is_hidden(c: char) -> bool
@@ -25,26 +28,14 @@ pub fn is_hidden(c: char) -> bool
 pub fn is_plain(c: char) -> bool
     ensures { result ≡ plain c }
 {
-    !is_hidden(c) && !is_blank(c) && c != '"' && c != '\\' && c != '#'
-}
-
-// The hex digit of a value below 16.
-pub fn hex_letter(value: u16) -> char
-    requires { value < 16 }
-    ensures { hex_of result ≡ Some value }
-{
-    if value < 10 {
-        char::from(0x30 + value as u8)
-    } else {
-        char::from(0x37 + value as u8)
-    }
+    !is_hidden(c) && !is_blank(c) && !matches!(c, '"' | '\\' | '#')
 }
 
 // The character that two units are together, if they are the halves of a pair.
-pub fn joined(high: u16, low: u16) -> Option<char>
+fn joined(high: u16, low: u16) -> Option<char>
     ensures { IfSome result (λ c. utf16 c ≡ high ∷ low ∷ []) }
 {
-    if high < 0xD800 || high > 0xDBFF || low < 0xDC00 || low > 0xDFFF {
+    if !matches!((high, low), (0xD800..=0xDBFF, 0xDC00..=0xDFFF)) {
         return None;
     }
     let ten_high = u32::from(high - 0xD800);
@@ -52,28 +43,65 @@ pub fn joined(high: u16, low: u16) -> Option<char>
     char::from_u32(0x10000 + ten_high * 1024 + ten_low)
 }
 
+// The characters of a text, and each unit that is half of a pair alone.
+// The kit's decode_utf16 would give them too, but no function here would then promise which character two halves are.
+#[derive(Clone, Copy)]
+pub struct Letters<'a> {
+    units: Units<'a>,
+}
+
+impl<'a> Letters<'a> {
+    pub fn of(text: &'a [u8]) -> Letters<'a>
+        ensures { units result.units.rest.now ≡ units text.now }
+    {
+        Letters {
+            units: Units::of(text),
+        }
+    }
+}
+
+impl<'a> Iterator for Letters<'a> {
+    type Item = Result<char, u16>;
+
+    ghost next_gives = { λ s r t. FirstLetter (units s.units.rest.now) r (units t.units.rest.now) };
+
+    ghost remaining = { λ s. at_most (length (units s.units.rest.now)) };
+
+    fn next(&mut self) -> Option<Result<char, u16>> {
+        let first = self.units.next()?;
+        let mut after = self.units;
+        let second = after.next();
+        if let Some(c) = second.and_then(|low| joined(first, low)) {
+            self.units = after;
+            return Some(Ok(c));
+        }
+        Some(char::from_u32(u32::from(first)).ok_or(first))
+    }
+}
+
 // A unit as the escape with four hex digits.
-pub fn push_escape(out: &mut String, unit: u16) -> Result<(), AllocError> {
-    out.push_str("\\u")?;
-    out.push(hex_letter(unit / 4096))?;
-    out.push(hex_letter(unit / 256 % 16))?;
-    out.push(hex_letter(unit / 16 % 16))?;
-    out.push(hex_letter(unit % 16))
+fn push_escape(out: &mut String, unit: u16) -> Result<(), AllocError>
+    ensures { OnOk result (string_bytes out.new ≡ string_bytes out.old ++ escape unit) }
+{
+    write!(out, "\\u{unit:04X}")
 }
 
 // A character as it stands between quotation marks.
-pub fn push_letter(out: &mut String, c: char) -> Result<(), AllocError> {
+fn push_char(out: &mut String, c: char) -> Result<(), AllocError> {
     match c {
         '"' => out.push_str("\\\""),
         '\\' => out.push_str("\\\\"),
         '\t' => out.push_str("\\t"),
         '\n' => out.push_str("\\n"),
-        _ => {
-            if is_hidden(c) {
-                push_escape(out, c as u16)
-            } else {
-                out.push(c)
-            }
-        }
+        _ if is_hidden(c) => push_escape(out, c as u16),
+        _ => out.push(c),
+    }
+}
+
+// A letter of a text as it stands between quotation marks.
+pub fn push_letter(out: &mut String, letter: Result<char, u16>) -> Result<(), AllocError> {
+    match letter {
+        Ok(c) => push_char(out, c),
+        Err(half) => push_escape(out, half),
     }
 }

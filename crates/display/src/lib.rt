@@ -10,6 +10,6 @@ mod tables;
 mod tests;
 mod texts;
 
-pub use messages::{accepted, misplaced, refused, size_line, words};
+pub use messages::{accepted, misplaced, refused, size_line};
 pub use tables::table;
 pub use texts::shown;

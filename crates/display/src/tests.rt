@@ -1,5 +1,5 @@
 use super::{accepted, refused, shown, table};
-use claims::Listed;
+use claims::{Listed, Texts};
 use faults::{Cause, Fault};
 use listing::read;
 use std::process::Abort;
@@ -58,7 +58,11 @@ fn lines(rt: HostRuntime) -> Result<(), Fail> {
 fn columns(rt: HostRuntime) -> Result<(), Fail> {
     match read(rt.alloc(), "é string \"b c\"\ncourse Int64 -2".as_bytes()) {
         Ok(list) => {
-            let lines = table(rt.alloc(), &Listed::over(list.claims()), list.text(), b"")?;
+            let texts = Texts {
+                rules: list.text(),
+                packet: b"",
+            };
+            let lines = table(rt.alloc(), &Listed::over(list.claims()), &texts)?;
             assert_eq!(rt;
                 lines.as_str(),
                 "1  é       string  \"b c\"\n2  course  Int64   -2\n"

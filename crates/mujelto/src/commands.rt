@@ -1,40 +1,48 @@
 // The commands.
 use super::failures::{Failure, USAGE};
 use super::files::{read_list, read_packet, write_packet};
-use claims::Source;
+use claims::{Source, Texts};
 use display::{accepted, misplaced, refused, size_line, table};
 use faults::Fault;
-use packet::check;
+use packet::{Packet, check};
 use packing::{PackError, is_written_back, pack};
+use std::rt::Files;
 
 // The line of a refusal on the standard output.
-fn refusal(rt: &HostRuntime, fault: Fault) -> Result<(), Failure> {
+fn refusal(rt: &(impl Print + AllocGlobal), fault: Fault) -> Result<(), Failure> {
     rt.println(refused(rt.alloc(), fault)?)?;
     Err(Failure::Refused)
 }
 
-// Checks the bytes, lists the claims, and writes the packet back.
-fn show_bytes(rt: &HostRuntime, bytes: &[u8]) -> Result<(), Failure> {
+// Lists the claims, and writes the packet back.
+fn show_claims(rt: &(impl Print + AllocGlobal), packet: &Packet) -> Result<(), Failure> {
     let heap = rt.alloc();
-    let checked = check(bytes);
-    if let Some(fault) = checked.fault {
-        return refusal(rt, fault);
-    }
-    let packet = checked.packet;
+    let bytes = packet.bytes();
+    let texts = Texts {
+        rules: b"",
+        packet: bytes,
+    };
     rt.println(accepted(heap, packet.count())?)?;
-    rt.print(table(heap, &packet, b"", bytes)?)?;
-    if is_written_back(heap, &packet)? {
+    rt.print(table(heap, packet, &texts)?)?;
+    if is_written_back(heap, packet)? {
         rt.println(size_line(heap, bytes.len())?)?;
     }
     Ok(())
 }
 
-fn show(rt: &HostRuntime, packet: &str) -> Result<(), Failure> {
+fn show(rt: &(impl Files + Print + AllocGlobal), packet: &str) -> Result<(), Failure> {
     let bytes = read_packet(rt, packet)?;
-    show_bytes(rt, bytes.as_slice())
+    match check(bytes.as_slice()) {
+        Ok(packet) => show_claims(rt, &packet),
+        Err(fault) => refusal(rt, fault),
+    }
 }
 
-fn pack_file(rt: &HostRuntime, list: &str, packet: &str) -> Result<(), Failure> {
+fn pack_file(
+    rt: &(impl Files + Print + AllocGlobal),
+    list: &str,
+    packet: &str,
+) -> Result<(), Failure> {
     let heap = rt.alloc();
     let text = read_list(rt, list)?;
     match pack(heap, text.as_slice()) {
@@ -49,7 +57,7 @@ fn pack_file(rt: &HostRuntime, list: &str, packet: &str) -> Result<(), Failure> 
 }
 
 // The words fit no command: is it the first, or those after it?
-fn misused(rt: &HostRuntime, command: &str) -> Result<(), Failure> {
+fn misused(rt: &impl AllocGlobal, command: &str) -> Result<(), Failure> {
     let line = match command {
         "pack" | "show" | "help" => format!(in rt.alloc();
             "mujelto: wrong number of words after '{command}'"
@@ -59,7 +67,7 @@ fn misused(rt: &HostRuntime, command: &str) -> Result<(), Failure> {
     Err(Failure::Usage(line))
 }
 
-pub fn run(rt: &HostRuntime, words: &[String]) -> Result<(), Failure> {
+pub fn run(rt: &(impl Files + Print + AllocGlobal), words: &[String]) -> Result<(), Failure> {
     match words {
         [] => Err(Failure::Usage(format!(in rt.alloc(); "mujelto: a command is missing")?)),
         [command] if command.as_str() == "help" => Ok(rt.print(USAGE)?),

@@ -1,6 +1,6 @@
 // What ends a command early, and how it is told.
 use std::alloc::AllocError;
-use std::io;
+use std::{fmt, io};
 
 #[derive(Drop)]
 pub enum Failure {
@@ -32,24 +32,15 @@ pub const USAGE: &str =
        mujelto help                 prints this
 ";
 
-// The failure's line on the standard error, and the result as it came.
-pub fn told(rt: &HostRuntime, res: Result<(), Failure>) -> Result<(), Failure> {
-    match &res {
-        Err(Failure::Line(line)) => {
-            let _ = eprintln!(rt; "{line}");
+// Whole lines, for the standard error.
+impl fmt::Display for Failure {
+    fn fmt<W: fmt::Write>(&self, f: &mut fmt::Formatter<W>) -> fmt::Result {
+        match self {
+            Failure::Refused => Ok(()),
+            Failure::Line(line) => writeln!(f, "{line}"),
+            Failure::Usage(line) => write!(f, "{line}\n{USAGE}"),
+            Failure::Memory => writeln!(f, "mujelto: out of memory"),
+            Failure::Output(error) => writeln!(f, "mujelto: {error}"),
         }
-        Err(Failure::Usage(line)) => {
-            let _ = eprintln!(rt; "{line}");
-            let _ = eprint!(rt; "{USAGE}");
-        }
-        Err(Failure::Memory) => {
-            let _ = eprintln!(rt; "mujelto: out of memory");
-        }
-        Err(Failure::Output(error)) => {
-            let _ = eprintln!(rt; "mujelto: {error}");
-        }
-        Err(Failure::Refused) => {}
-        Ok(()) => {}
     }
-    res
 }

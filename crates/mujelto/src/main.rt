@@ -7,24 +7,22 @@ mod commands;
 mod failures;
 mod files;
 
-use commands::run;
 use failures::Failure;
 use std::env;
 use std::process::ExitCode;
 
-// The words after the program's name.
-fn words(rt: &HostRuntime) -> Result<Vec<String>, Failure> {
-    let all: Vec<String> = env::args(rt)?.skip(1).collect(rt.alloc())?;
-    Ok(all)
+// Runs the command that the words after the program's name choose.
+fn run(rt: &HostRuntime) -> Result<(), Failure> {
+    let words: Vec<String> = env::args(rt)?.skip(1).collect(rt.alloc())?;
+    commands::run(rt, words.as_slice())
 }
 
 fn main(rt: HostRuntime) -> ExitCode {
-    let told = match words(&rt) {
-        Ok(all) => failures::told(&rt, run(&rt, all.as_slice())),
-        Err(failure) => failures::told(&rt, Err(failure)),
-    };
-    match told {
+    match run(&rt) {
         Ok(()) => ExitCode::SUCCESS,
-        Err(_) => ExitCode::FAILURE,
+        Err(failure) => {
+            let _ = eprint!(rt; "{failure}");
+            ExitCode::FAILURE
+        }
     }
 }

@@ -10,10 +10,7 @@ fn is_same_in(packet: &Packet, out: &mut [u8]) -> bool
     requires { length out.old ≡ length packet.now.bytes.now }
     ensures { result ≡ true }
 {
-    match rewrite(packet, out) {
-        Ok(_) => &*out == packet.bytes(),
-        Err(_) => false,
-    }
+    rewrite(packet, out).is_ok() && &*out == packet.bytes()
 }
 
 // Writes the packet again and compares: true of every accepted packet.

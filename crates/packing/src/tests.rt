@@ -13,7 +13,7 @@ fn packs(rt: HostRuntime) -> Result<(), Fail> {
                 bytes.as_slice()
                     == b"\x01\x00\x2b\x01\0a\x07\0b\0o\0o\0l\0e\0a\0n\x01\x01\0b\x06\0u\0i\0n\0t\x006\x004\0\0\0\0\0\0\x01\x02".as_slice()
             );
-            let packet = check_packet(bytes.as_slice()).packet;
+            let packet = check_packet(bytes.as_slice())?;
             assert_eq!(rt; packet.count(), 2);
             assert!(rt; is_written_back(rt.alloc(), &packet)?);
             Ok(())
