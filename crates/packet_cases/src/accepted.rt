@@ -1,6 +1,6 @@
 // Packets that are accepted, and what their claims are.
-use claims::{Claim, Origin, Source, Text, Value, claim_text};
-use packet::check as checked_packet;
+use claims::{Claim, Origin, Source, Text, Texts, Value};
+use packet::check;
 use std::test::Fail;
 
 // Type "t", the word and the value follow the head.
@@ -14,24 +14,23 @@ const STRING: &[u8] = b"\x01\x00\x15\x01\x00t\x06\x00s\x00t\x00r\x00i\x00n\x00g\
 
 const BOOLEAN: &[u8] = b"\x01\x00\x13\x01\x00t\x07\x00b\x00o\x00o\x00l\x00e\x00a\x00n\x01";
 
+// The value of the one claim that the bytes carry.
 fn only(bytes: &[u8]) -> Option<Value> {
-    let checked = checked_packet(bytes);
-    match (
-        checked.fault,
-        checked.packet.count(),
-        checked.packet.claim_at(0),
-    ) {
-        (None, 1, Some(claim)) => Some(claim.value),
-        _ => None,
+    let packet = check(bytes).ok()?;
+    if packet.count() != 1 {
+        return None;
     }
+    packet.claim_at(0).map(|claim| claim.value)
 }
 
 #[test]
-fn nothing_after_the_head(rt: HostRuntime) {
-    let checked = checked_packet(b"\x01\x00\x00");
-    assert!(rt; checked.fault.is_none());
-    assert_eq!(rt; checked.packet.count(), 0);
-    assert!(rt; checked.packet.claim_at(0).is_none());
+fn nothing_after_the_head(rt: HostRuntime) -> Result<(), Fail> {
+    let Ok(packet) = check(b"\x01\x00\x00") else {
+        return Err(Fail::new("refused"));
+    };
+    assert_eq!(rt; packet.count(), 0);
+    assert!(rt; packet.claim_at(0).is_none());
+    Ok(())
 }
 
 #[test]
@@ -49,13 +48,19 @@ fn each_kind_of_value(rt: HostRuntime) {
 
 #[test]
 fn texts_at_their_places(rt: HostRuntime) -> Result<(), Fail> {
-    let checked = checked_packet(STRING);
-    let Some(claim) = checked.packet.claim_at(0) else {
+    let Ok(packet) = check(STRING) else {
+        return Err(Fail::new("refused"));
+    };
+    let Some(claim) = packet.claim_at(0) else {
         return Err(Fail::new("no claim"));
     };
     assert_eq!(rt; claim.typ.place, 4);
     assert_eq!(rt; claim.word.place, 7);
-    let Some(word) = claim_text(claim.word, b"", checked.packet.bytes()) else {
+    let texts = Texts {
+        rules: b"",
+        packet: packet.bytes(),
+    };
+    let Some(word) = texts.part(claim.word) else {
         return Err(Fail::new("no word"));
     };
     assert!(rt; word.bytes.len() == 12);

@@ -1,5 +1,6 @@
-// Packets that are refused: the number and the place of the first fault.
-use packet::check as checked_packet;
+// Packets that are refused: the cause and the place of the first fault.
+use faults::{Cause, Fault};
+use packet::check;
 
 // A boolean claim with an empty type: 17 bytes.
 const CLAIM: &[u8] = b"\x00\x07\x00b\x00o\x00o\x00l\x00e\x00a\x00n\x01";
@@ -8,41 +9,44 @@ const CLAIM: &[u8] = b"\x00\x07\x00b\x00o\x00o\x00l\x00e\x00a\x00n\x01";
 const TWO: &[u8] =
     b"\x01\x00\x2b\x01\x00t\x06\x00u\x00i\x00n\x00t\x006\x004\x00\x00\x00\x00\x00\x00\x00\x05\x01\x00u\x06\x00s\x00t\x00r\x00i\x00n\x00g\x01\x00v";
 
-fn fault(bytes: &[u8]) -> Option<(u8, u16)> {
-    match checked_packet(bytes).fault {
-        Some(fault) => Some((fault.cause.number(), fault.place)),
-        None => None,
-    }
+// Whether the bytes are a packet, and the fault if not.
+fn judged(bytes: &[u8]) -> Result<(), Fault> {
+    check(bytes).map(|_| ())
 }
 
-fn head(buffer: &mut [u8], length: usize) {
-    if buffer.len() >= 3 {
-        buffer[0] = 1;
-        buffer[1] = (length / 256 % 256) as u8;
-        buffer[2] = (length % 256) as u8;
+fn refused(cause: Cause, place: u16) -> Result<(), Fault> {
+    Err(Fault::at(cause, place))
+}
+
+fn head(buffer: &mut [u8], length: u16) {
+    if let [version, high, low, ..] = buffer {
+        *version = 1;
+        [*high, *low] = length.to_be_bytes();
     }
 }
 
 // As many boolean claims as the buffer has room for.
 fn fill(buffer: &mut [u8], count: usize) {
-    for i in 0..count.min(1000) {
-        let from = 3 + 17 * i;
-        let to = from + 17;
-        if to <= buffer.len() {
-            buffer[from..to].copy_from_slice(CLAIM);
-        }
+    let Some(behind) = buffer.get_mut(3..) else {
+        return;
+    };
+    for slot in behind.chunks_exact_mut(17).take(count) {
+        slot.copy_from_slice(CLAIM);
     }
 }
 
 #[test]
 fn heads(rt: HostRuntime) {
-    assert_eq!(rt; fault(b""), Some((51, 0)));
-    assert_eq!(rt; fault(b"\x01\x00"), Some((51, 0)));
-    assert_eq!(rt; fault(b"\x02\x00\x00"), Some((51, 0)));
-    assert_eq!(rt; fault(b"\x02\x00\x05"), Some((51, 0)));
-    assert_eq!(rt; fault(b"\x01\x00\x01"), Some((52, 1)));
-    assert_eq!(rt; fault(b"\x01\x00\x00\x00"), Some((52, 1)));
-    assert_eq!(rt; fault(b"\x01\x7f\xfe"), Some((52, 1)));
+    assert_eq!(rt; judged(b""), refused(Cause::NotAPacket, 0));
+    assert_eq!(rt; judged(b"\x01\x00"), refused(Cause::NotAPacket, 0));
+    assert_eq!(rt; judged(b"\x02\x00\x00"), refused(Cause::NotAPacket, 0));
+    assert_eq!(rt; judged(b"\x02\x00\x05"), refused(Cause::NotAPacket, 0));
+    assert_eq!(rt; judged(b"\x01\x00\x01"), refused(Cause::LengthMismatch, 1));
+    assert_eq!(rt;
+        judged(b"\x01\x00\x00\x00"),
+        refused(Cause::LengthMismatch, 1)
+    );
+    assert_eq!(rt; judged(b"\x01\x7f\xfe"), refused(Cause::LengthMismatch, 1));
 }
 
 #[test]
@@ -50,40 +54,46 @@ fn the_257th_claim(rt: HostRuntime) {
     let mut most = [0u8; 4355];
     head(&mut most, 4352);
     fill(&mut most, 256);
-    assert_eq!(rt; fault(&most), None);
+    assert_eq!(rt; judged(&most), Ok(()));
     let mut over = [0u8; 4372];
     head(&mut over, 4369);
     fill(&mut over, 257);
-    assert_eq!(rt; fault(&over), Some((53, 4355)));
+    assert_eq!(rt; judged(&over), refused(Cause::TooManyClaims, 4355));
     let mut one_byte = [9u8; 4356];
     head(&mut one_byte, 4353);
     fill(&mut one_byte, 256);
-    assert_eq!(rt; fault(&one_byte), Some((53, 4355)));
+    assert_eq!(rt; judged(&one_byte), refused(Cause::TooManyClaims, 4355));
 }
 
 #[test]
 fn each_claim_fault_at_its_claim(rt: HostRuntime) {
-    assert_eq!(rt; fault(b"\x01\x00\x01\x01"), Some((54, 3)));
-    assert_eq!(rt; fault(b"\x01\x00\x05\x00\x01\x00A\x00"), Some((55, 3)));
     assert_eq!(rt;
-        fault(b"\x01\x00\x11\x00\x07\x00b\x00o\x00o\x00l\x00e\x00a\x00n\x02"),
-        Some((56, 3))
+        judged(b"\x01\x00\x01\x01"),
+        refused(Cause::ClaimPastEnd, 3)
     );
     assert_eq!(rt;
-        fault(b"\x01\x00\x13\x01\xd8\x00\x07\x00b\x00o\x00o\x00l\x00e\x00a\x00n\x01"),
-        Some((57, 3))
+        judged(b"\x01\x00\x05\x00\x01\x00A\x00"),
+        refused(Cause::UnknownValueType, 3)
     );
     assert_eq!(rt;
-        fault(b"\x01\x00\x13\x01\x00\x00\x07\x00b\x00o\x00o\x00l\x00e\x00a\x00n\x02"),
-        Some((56, 3))
+        judged(b"\x01\x00\x11\x00\x07\x00b\x00o\x00o\x00l\x00e\x00a\x00n\x02"),
+        refused(Cause::BooleanOverOne, 3)
     );
     assert_eq!(rt;
-        fault(b"\x01\x00\x11\x00\x06\x00s\x00t\x00r\x00i\x00n\x00g\x01\xdc\x00"),
-        Some((57, 3))
+        judged(b"\x01\x00\x13\x01\xd8\x00\x07\x00b\x00o\x00o\x00l\x00e\x00a\x00n\x01"),
+        refused(Cause::IllFormedText, 3)
     );
     assert_eq!(rt;
-        fault(b"\x01\x00\x13\x00\x06\x00s\x00t\x00r\x00i\x00n\x00g\x02\xd8\x00\xdc\x00"),
-        None
+        judged(b"\x01\x00\x13\x01\x00\x00\x07\x00b\x00o\x00o\x00l\x00e\x00a\x00n\x02"),
+        refused(Cause::BooleanOverOne, 3)
+    );
+    assert_eq!(rt;
+        judged(b"\x01\x00\x11\x00\x06\x00s\x00t\x00r\x00i\x00n\x00g\x01\xdc\x00"),
+        refused(Cause::IllFormedText, 3)
+    );
+    assert_eq!(rt;
+        judged(b"\x01\x00\x13\x00\x06\x00s\x00t\x00r\x00i\x00n\x00g\x02\xd8\x00\xdc\x00"),
+        Ok(())
     );
 }
 
@@ -94,22 +104,22 @@ fn cut_to(buffer: &mut [u8], n: usize, mended: bool) {
     }
     buffer[0..n].copy_from_slice(&TWO[0..n]);
     if mended && n >= 3 {
-        head(buffer, n - 3);
+        head(buffer, (n - 3) as u16);
     }
 }
 
-fn cut_fault(n: usize, mended: bool) -> Option<(u8, u16)> {
+fn cut_judged(n: usize, mended: bool) -> Result<(), Fault> {
     let mut cut = [0u8; 64];
     cut_to(&mut cut, n, mended);
-    fault(&cut[0..n.min(64)])
+    judged(&cut[0..n.min(64)])
 }
 
-fn expected(n: usize) -> Option<(u8, u16)> {
+fn expected(n: usize) -> Result<(), Fault> {
     match n {
-        0..=2 => Some((51, 0)),
-        3 | 27 | 46 => None,
-        4..=26 => Some((54, 3)),
-        _ => Some((54, 27)),
+        0..=2 => refused(Cause::NotAPacket, 0),
+        3 | 27 | 46 => Ok(()),
+        4..=26 => refused(Cause::ClaimPastEnd, 3),
+        _ => refused(Cause::ClaimPastEnd, 27),
     }
 }
 
@@ -118,9 +128,9 @@ fn expected(n: usize) -> Option<(u8, u16)> {
 fn cut_at_every_byte(rt: HostRuntime) {
     assert_eq!(rt; TWO.len(), 46);
     for n in 0..47 {
-        assert_eq!(rt; cut_fault(n, true), expected(n));
+        assert_eq!(rt; cut_judged(n, true), expected(n));
         if n >= 3 && n < 46 {
-            assert_eq!(rt; cut_fault(n, false), Some((52, 1)));
+            assert_eq!(rt; cut_judged(n, false), refused(Cause::LengthMismatch, 1));
         }
     }
 }
@@ -132,8 +142,10 @@ fn put_text(buffer: &mut [u8], at: usize, units: usize) -> usize {
         return at;
     }
     buffer[at] = n as u8;
-    for i in 0..n {
-        buffer[at + 2 + 2 * i] = 0x61;
+    for unit in buffer[at + 1..at + 1 + 2 * n].chunks_exact_mut(2) {
+        if let [_, low] = unit {
+            *low = 0x61;
+        }
     }
     at + 1 + 2 * n
 }
@@ -171,9 +183,9 @@ fn the_longest_packet(rt: HostRuntime) {
     let mut whole = [0u8; 32768];
     head(&mut whole, 32765);
     assert_eq!(rt; fill_whole(&mut whole), 32768);
-    assert_eq!(rt; fault(&whole), None);
+    assert_eq!(rt; judged(&whole), Ok(()));
     let mut over = [0u8; 32769];
     head(&mut over, 32766);
     assert_eq!(rt; fill_whole(&mut over), 32768);
-    assert_eq!(rt; fault(&over), Some((52, 1)));
+    assert_eq!(rt; judged(&over), refused(Cause::LengthMismatch, 1));
 }

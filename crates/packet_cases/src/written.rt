@@ -1,6 +1,8 @@
 // What the writer writes, and what it leaves.
-use claims::{Claim, Listed, Origin, Text, Value};
-use packet::check as checked_packet;
+use claims::{Claim, Listed, Origin, Text, Texts, Value};
+use faults::{Cause, Fault};
+use packet::check;
+use std::test::Fail;
 use writer::{rewrite, write};
 
 // The rule text "t", "boolean" and "string", in units.
@@ -24,21 +26,23 @@ fn flag(value: Value) -> Claim {
     }
 }
 
-fn number(r: Result<usize, faults::Fault>) -> usize {
-    match r {
-        Ok(n) => n,
-        Err(fault) => 1000 + usize::from(fault.cause.number()),
-    }
+fn written(claims: &[Claim], out: &mut [u8]) -> Result<usize, Fault> {
+    let texts = Texts {
+        rules: RULES,
+        packet: b"",
+    };
+    write(&Listed::over(claims), &texts, out)
+}
+
+fn refused(cause: Cause) -> Result<usize, Fault> {
+    Err(Fault::at(cause, 0))
 }
 
 #[test]
 fn from_the_rule_text(rt: HostRuntime) {
     let claims = [flag(Value::Boolean(true))];
     let mut out = [7u8; 24];
-    assert_eq!(rt;
-        number(write(&Listed::over(&claims), RULES, b"", &mut out)),
-        22
-    );
+    assert_eq!(rt; written(&claims, &mut out), Ok(22));
     assert!(rt; &out[0..22] == BOOLEAN);
     assert_eq!(rt; out[22], 7);
     assert_eq!(rt; out[23], 7);
@@ -48,30 +52,18 @@ fn from_the_rule_text(rt: HostRuntime) {
 fn a_buffer_one_byte_short(rt: HostRuntime) {
     let claims = [flag(Value::Boolean(true))];
     let mut out = [7u8; 21];
-    assert_eq!(rt;
-        number(write(&Listed::over(&claims), RULES, b"", &mut out)),
-        1081
-    );
+    assert_eq!(rt; written(&claims, &mut out), refused(Cause::BufferTooShort));
     assert_eq!(rt; out[0], 7);
     let mut exact = [7u8; 22];
-    assert_eq!(rt;
-        number(write(&Listed::over(&claims), RULES, b"", &mut exact)),
-        22
-    );
+    assert_eq!(rt; written(&claims, &mut exact), Ok(22));
 }
 
 #[test]
 fn more_claims_than_a_packet_has(rt: HostRuntime) {
     let claims = [flag(Value::Boolean(false)); 257];
     let mut out = [7u8; 8000];
-    assert_eq!(rt;
-        number(write(&Listed::over(&claims[0..256]), RULES, b"", &mut out)),
-        4867
-    );
-    assert_eq!(rt;
-        number(write(&Listed::over(&claims), RULES, b"", &mut out)),
-        1082
-    );
+    assert_eq!(rt; written(&claims[0..256], &mut out), Ok(4867));
+    assert_eq!(rt; written(&claims, &mut out), refused(Cause::PacketTooLarge));
 }
 
 #[test]
@@ -83,23 +75,29 @@ fn a_claim_that_no_packet_carries(rt: HostRuntime) {
         value: Value::Boolean(true),
     }];
     assert_eq!(rt;
-        number(write(&Listed::over(&outside), RULES, b"", &mut out)),
-        1064
+        written(&outside, &mut out),
+        refused(Cause::UncarriableClaim)
     );
     let other_type = [flag(Value::Uint64(1))];
     assert_eq!(rt;
-        number(write(&Listed::over(&other_type), RULES, b"", &mut out)),
-        1064
+        written(&other_type, &mut out),
+        refused(Cause::UncarriableClaim)
     );
     assert_eq!(rt; out[0], 7);
 }
 
 #[test]
-fn an_accepted_packet_again(rt: HostRuntime) {
+fn an_accepted_packet_again(rt: HostRuntime) -> Result<(), Fail> {
     let mut out = [7u8; 24];
-    let checked = checked_packet(BOOLEAN);
-    assert_eq!(rt; number(rewrite(&checked.packet, &mut out)), 22);
+    let Ok(packet) = check(BOOLEAN) else {
+        return Err(Fail::new("refused"));
+    };
+    assert_eq!(rt; rewrite(&packet, &mut out), Ok(22));
     assert!(rt; &out[0..22] == BOOLEAN);
     assert_eq!(rt; out[22], 7);
-    assert_eq!(rt; number(rewrite(&checked.packet, &mut out[0..21])), 1081);
+    assert_eq!(rt;
+        rewrite(&packet, &mut out[0..21]),
+        refused(Cause::BufferTooShort)
+    );
+    Ok(())
 }
