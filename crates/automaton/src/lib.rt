@@ -6,8 +6,8 @@
 ghost use Rattle.std.specs.Prelude.{◌≡◌, Bool, not, take, Decides};
 ghost use Rattle.units.specs.Units.{units};
 ghost use Rattle.automaton.specs.Language.{fits, Tree, Matches};
-ghost use Rattle.automaton.specs.Places.{bit, atoms, follows, Stands};
-ghost use Rattle.automaton.specs.Run.{room, masked, reached, ends, stepped};
+ghost use Rattle.automaton.specs.Places.{bit, Stands};
+ghost use Rattle.automaton.specs.Run.{room, ends, stepped};
 
 use units::{Units, fold};
 
@@ -72,40 +72,23 @@ impl Automaton {
         &self.places[..self.count.min(60)]
     }
 
-    // The places whose atom takes u.
-    fn mask(&self, u: u16) -> u64
-        ensures { result ≡ masked (atoms self.now.places) u (room self.now) }
-    {
-        let mut set = 0;
-        for (i, place) in self.used().iter().enumerate() {
-            if place.atom.takes(u) {
-                set |= 1u64 << i;
-            }
-        }
-        set
-    }
-
-    // The set `begun`, and what may follow a place of s.
-    fn reach(&self, begun: u64, s: u64) -> u64
-        ensures { result ≡ reached (follows self.now.places) begun s (room self.now) }
-    {
-        let mut set = begun;
-        for (i, place) in self.used().iter().enumerate() {
-            if has(s, i) {
-                set |= place.follow;
-            }
-        }
-        set
-    }
-
-    // One unit on.
+    // One unit on: of the places where a run may begin or go on, those whose atom takes u.
     fn step(&self, r: Reached, u: u16) -> Reached
         ensures set { result.set ≡ stepped self.now r.fresh r.set u }
         ensures fresh { result.fresh ≡ not self.now.head }
     {
-        let begun = if r.fresh { self.firsts } else { 0 };
+        let mut next = if r.fresh { self.firsts } else { 0 };
+        let mut mask = 0;
+        for (i, place) in self.used().iter().enumerate() {
+            if has(r.set, i) {
+                next |= place.follow;
+            }
+            if place.atom.takes(u) {
+                mask |= 1u64 << i;
+            }
+        }
         Reached {
-            set: self.reach(begun, r.set) & self.mask(u),
+            set: next & mask,
             fresh: !self.head,
         }
     }

@@ -6,7 +6,6 @@ ghost use Rattle.units.specs.Units.{units};
 ghost use Rattle.automaton.specs.Places.{atoms, follows};
 ghost use Rattle.pattern.specs.Grammar.{choice as Choice, sequence as Sequence, item as Item, atom as Atomic};
 ghost use Rattle.pattern.specs.Parts.{piece, Either, Both, Single, Grown};
-ghost use Rattle.pattern.specs.Reading.{Outcome};
 ghost use Rattle.pattern.specs.Signs.{begins, stops as stops_at};
 
 use super::signs::*;
@@ -28,6 +27,8 @@ pub struct Reader<'a> {
     pub at: usize,
     pub count: usize,
     pub places: [Place; 60],
+    ghost inside: { at ≤ length (units pattern.now) },
+    ghost room: { count ≤ 60 },
 }
 
 // From each place of the first set one may go on to each of the second.
@@ -92,6 +93,8 @@ impl Part {
 // Each of choice, sequence, item and atom reads what stands at `at`, and may open `depth` brackets more. None says that
 // no such part stands there within the limits.
 impl<'a> Reader<'a> {
+    ghost use Rattle.pattern.specs.Reading.{Outcome};
+
     // Does this unit stand next?
     fn stands(&self, u: u16) -> bool
         ensures { result ≡ begins u (drop self.now.at (units self.now.pattern.now)) }
@@ -108,8 +111,6 @@ impl<'a> Reader<'a> {
 
     #[cycle(atom_choice_item_sequence)]
     pub fn choice(&mut self, depth: usize) -> Option<Part>
-        requires inside { self.old.at ≤ length (units self.old.pattern.now) }
-        requires room { self.old.count ≤ 60 }
         ensures { Outcome Choice depth self.old self.new result }
     {
         let mut a = self.sequence(depth)?;
@@ -123,8 +124,6 @@ impl<'a> Reader<'a> {
 
     #[cycle(atom_choice_item_sequence)]
     fn sequence(&mut self, depth: usize) -> Option<Part>
-        requires inside { self.old.at ≤ length (units self.old.pattern.now) }
-        requires room { self.old.count ≤ 60 }
         ensures { Outcome Sequence depth self.old self.new result }
     {
         let mut a = Part {
@@ -142,8 +141,6 @@ impl<'a> Reader<'a> {
 
     #[cycle(atom_choice_item_sequence)]
     fn item(&mut self, depth: usize) -> Option<Part>
-        requires inside { self.old.at ≤ length (units self.old.pattern.now) }
-        requires room { self.old.count ≤ 60 }
         ensures { Outcome Item depth self.old self.new result }
     {
         let a = self.atom(depth)?;
@@ -166,8 +163,6 @@ impl<'a> Reader<'a> {
 
     #[cycle(atom_choice_item_sequence)]
     fn atom(&mut self, depth: usize) -> Option<Part>
-        requires inside { self.old.at ≤ length (units self.old.pattern.now) }
-        requires room { self.old.count ≤ 60 }
         ensures { Outcome Atomic depth self.old self.new result }
     {
         if self.stands(OPEN) {

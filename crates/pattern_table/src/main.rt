@@ -13,9 +13,7 @@ use std::io;
 fn unit_bytes(heap: Global, text: &str) -> Result<Vec<u8>, AllocError> {
     let mut bytes = Vec::new(heap);
     for u in text.encode_utf16() {
-        let [high, low] = u.to_be_bytes();
-        bytes.push(high)?;
-        bytes.push(low)?;
+        bytes.extend_from_slice(&u.to_be_bytes())?;
     }
     Ok(bytes)
 }

@@ -43,14 +43,17 @@ atom-returns-in_err-a t c =
 pub atom-overflow_add-self-2 : goal.atom-overflow_add-self-2
 atom-overflow_add-self-2 t c =
     let h =
-    below_bytes c.args.self.now.pattern.now _ (simple_inside (units c.args.self.now.pattern.now) c.args.self.now.at c.in_ok-a.a c.in_ok-a.units c.requires.inside c.in_ok-a.ensures) in
+    below_bytes c.args.self.now.pattern.now _ (simple_inside (units c.args.self.now.pattern.now) c.args.self.now.at c.in_ok-a.a c.in_ok-a.units c.args.self.now.inside c.in_ok-a.ensures) in
     search rules
+
+pub atom-invariant_of-self-2-clause-inside : goal.atom-invariant_of-self-2-clause-inside
+atom-invariant_of-self-2-clause-inside t c = simple_inside (units c.args.self.now.pattern.now) c.args.self.now.at c.in_ok-a.a c.in_ok-a.units c.args.self.now.inside c.in_ok-a.ensures
 
 pub atom-returns : goal.atom-returns
 atom-returns t c = record {
   same = refl;
   read =
-      simple_read (units c.args.self.now.pattern.now) c.args.self.now.at (sym c.if-stands.ensures) c.in_ok-a.a c.in_ok-a.units c.requires.inside (search rules) c.in_ok-a.ensures c.put.ensures.takes c.put.ensures.kept
+      simple_read (units c.args.self.now.pattern.now) c.args.self.now.at (sym c.if-stands.ensures) c.in_ok-a.a c.in_ok-a.units c.args.self.now.inside (search rules) c.in_ok-a.ensures c.put.ensures.takes c.put.ensures.kept
       (c.single.ensures c.args.self.now.at c.in_ok-a.units);
 }
 
@@ -135,7 +138,7 @@ item-returns t c = record {
 pub sequence-loop-self-init : goal.sequence-loop-self-init
 sequence-loop-self-init t c = (
   refl,
-  seq_begin (units c.args.self.now.pattern.now) c.args.depth c.args.self.now.at c.args.self.now.count (table c.args.self.now.places) _ c.requires.inside c.requires.room refl refl refl refl refl,
+  seq_begin (units c.args.self.now.pattern.now) c.args.depth c.args.self.now.at c.args.self.now.count (table c.args.self.now.places) _ c.args.self.now.inside c.args.self.now.room refl refl refl refl refl,
 )
 
 pub sequence-returns-in_err-b : goal.sequence-returns-in_err-b
