@@ -1,8 +1,7 @@
 // The right sides of assignments, one function for each production.
-ghost use Rattle.std.specs.Prelude.{◌≡◌};
 ghost use Rattle.grammar.specs.Parse as G;
 ghost use Rattle.cursor.specs.Pieces.{word_of};
-ghost use Rattle.cursor.specs.Reading.{shown, rest, Reading, text_of};
+ghost use Rattle.cursor.specs.Reading.{Parses, text_of};
 ghost use Rattle.actions.specs.Shown.{expr_of};
 
 use super::tree::{Expr, ExprRead};
@@ -10,13 +9,12 @@ use cursor::{Cursor, Piece, Stop};
 use words::Terminal;
 
 fn property<'a>(cursor: &mut Cursor<'a>, i: Piece) -> Result<ExprRead, Stop>
-    ensures reads { Reading (G.property (word_of (text_of cursor.old) i)) (rest cursor.old) (shown (expr_of (text_of cursor.old)) result (rest cursor.new)) }
-    ensures text { text_of cursor.new ≡ text_of cursor.old }
+    ensures { Parses (G.property (word_of (text_of cursor.old) i)) expr_of cursor.old result cursor.new }
 {
-    if cursor.sees(Terminal::KeyType) {
+    if cursor.sees(&[Terminal::KeyType]) {
         cursor.expect(Terminal::KeyType)?;
         Ok(Expr::TypeOf(i))
-    } else if cursor.sees(Terminal::KeyValue) {
+    } else if cursor.sees(&[Terminal::KeyValue]) {
         cursor.expect(Terminal::KeyValue)?;
         Ok(Expr::ValueOf(i))
     } else {
@@ -26,8 +24,7 @@ fn property<'a>(cursor: &mut Cursor<'a>, i: Piece) -> Result<ExprRead, Stop>
 }
 
 fn reference<'a>(cursor: &mut Cursor<'a>) -> Result<ExprRead, Stop>
-    ensures reads { Reading G.reference (rest cursor.old) (shown (expr_of (text_of cursor.old)) result (rest cursor.new)) }
-    ensures text { text_of cursor.new ≡ text_of cursor.old }
+    ensures { Parses G.reference expr_of cursor.old result cursor.new }
 {
     let i = cursor.expect(Terminal::Identifier)?;
     cursor.expect(Terminal::Dot)?;
@@ -35,12 +32,11 @@ fn reference<'a>(cursor: &mut Cursor<'a>) -> Result<ExprRead, Stop>
 }
 
 pub fn expression<'a>(cursor: &mut Cursor<'a>) -> Result<ExprRead, Stop>
-    ensures reads { Reading G.Expression (rest cursor.old) (shown (expr_of (text_of cursor.old)) result (rest cursor.new)) }
-    ensures text { text_of cursor.new ≡ text_of cursor.old }
+    ensures { Parses G.Expression expr_of cursor.old result cursor.new }
 {
-    if cursor.sees(Terminal::Identifier) {
+    if cursor.sees(&[Terminal::Identifier]) {
         reference(cursor)
-    } else if cursor.sees(Terminal::Literal) {
+    } else if cursor.sees(&[Terminal::Literal]) {
         let w = cursor.expect(Terminal::Literal)?;
         Ok(Expr::Literal(w))
     } else {
@@ -50,10 +46,9 @@ pub fn expression<'a>(cursor: &mut Cursor<'a>) -> Result<ExprRead, Stop>
 }
 
 pub fn value_type_expr<'a>(cursor: &mut Cursor<'a>) -> Result<ExprRead, Stop>
-    ensures reads { Reading G.ValueTypeExpr (rest cursor.old) (shown (expr_of (text_of cursor.old)) result (rest cursor.new)) }
-    ensures text { text_of cursor.new ≡ text_of cursor.old }
+    ensures { Parses G.ValueTypeExpr expr_of cursor.old result cursor.new }
 {
-    if cursor.sees(Terminal::Identifier) {
+    if cursor.sees(&[Terminal::Identifier]) {
         let i = cursor.expect(Terminal::Identifier)?;
         cursor.expect(Terminal::Dot)?;
         cursor.expect(Terminal::KeyValueType)?;

@@ -1,7 +1,6 @@
 // The action of a rule, one function for each production.
-ghost use Rattle.std.specs.Prelude.{◌≡◌};
 ghost use Rattle.grammar.specs.Parse as G;
-ghost use Rattle.cursor.specs.Reading.{shown, rest, Reading, text_of};
+ghost use Rattle.cursor.specs.Reading.{Parses};
 ghost use Rattle.actions.specs.Shown.{expr_of, two_of, action_of};
 
 use super::exprs::{expression, value_type_expr};
@@ -10,8 +9,7 @@ use cursor::{Cursor, Stop};
 use words::Terminal;
 
 fn claim_type_assign<'a>(cursor: &mut Cursor<'a>) -> Result<ExprRead, Stop>
-    ensures reads { Reading G.ClaimTypeAssign (rest cursor.old) (shown (expr_of (text_of cursor.old)) result (rest cursor.new)) }
-    ensures text { text_of cursor.new ≡ text_of cursor.old }
+    ensures { Parses G.ClaimTypeAssign expr_of cursor.old result cursor.new }
 {
     cursor.expect(Terminal::KeyType)?;
     cursor.expect(Terminal::Assign)?;
@@ -19,8 +17,7 @@ fn claim_type_assign<'a>(cursor: &mut Cursor<'a>) -> Result<ExprRead, Stop>
 }
 
 fn claim_val_assign<'a>(cursor: &mut Cursor<'a>) -> Result<ExprRead, Stop>
-    ensures reads { Reading G.ClaimValAssign (rest cursor.old) (shown (expr_of (text_of cursor.old)) result (rest cursor.new)) }
-    ensures text { text_of cursor.new ≡ text_of cursor.old }
+    ensures { Parses G.ClaimValAssign expr_of cursor.old result cursor.new }
 {
     cursor.expect(Terminal::KeyValue)?;
     cursor.expect(Terminal::Assign)?;
@@ -28,8 +25,7 @@ fn claim_val_assign<'a>(cursor: &mut Cursor<'a>) -> Result<ExprRead, Stop>
 }
 
 fn claim_val_type_assign<'a>(cursor: &mut Cursor<'a>) -> Result<ExprRead, Stop>
-    ensures reads { Reading G.ClaimValTypeAssign (rest cursor.old) (shown (expr_of (text_of cursor.old)) result (rest cursor.new)) }
-    ensures text { text_of cursor.new ≡ text_of cursor.old }
+    ensures { Parses G.ClaimValTypeAssign expr_of cursor.old result cursor.new }
 {
     cursor.expect(Terminal::KeyValueType)?;
     cursor.expect(Terminal::Assign)?;
@@ -37,8 +33,7 @@ fn claim_val_type_assign<'a>(cursor: &mut Cursor<'a>) -> Result<ExprRead, Stop>
 }
 
 fn value_first<'a>(cursor: &mut Cursor<'a>) -> Result<(ExprRead, ExprRead), Stop>
-    ensures reads { Reading G.assigns_value_first (rest cursor.old) (shown (two_of (text_of cursor.old)) result (rest cursor.new)) }
-    ensures text { text_of cursor.new ≡ text_of cursor.old }
+    ensures { Parses G.assigns_value_first two_of cursor.old result cursor.new }
 {
     let v = claim_val_assign(cursor)?;
     cursor.expect(Terminal::Comma)?;
@@ -47,8 +42,7 @@ fn value_first<'a>(cursor: &mut Cursor<'a>) -> Result<(ExprRead, ExprRead), Stop
 }
 
 fn value_type_first<'a>(cursor: &mut Cursor<'a>) -> Result<(ExprRead, ExprRead), Stop>
-    ensures reads { Reading G.assigns_value_type_first (rest cursor.old) (shown (two_of (text_of cursor.old)) result (rest cursor.new)) }
-    ensures text { text_of cursor.new ≡ text_of cursor.old }
+    ensures { Parses G.assigns_value_type_first two_of cursor.old result cursor.new }
 {
     let y = claim_val_type_assign(cursor)?;
     cursor.expect(Terminal::Comma)?;
@@ -57,10 +51,9 @@ fn value_type_first<'a>(cursor: &mut Cursor<'a>) -> Result<(ExprRead, ExprRead),
 }
 
 fn claim_value_assign<'a>(cursor: &mut Cursor<'a>) -> Result<(ExprRead, ExprRead), Stop>
-    ensures reads { Reading G.ClaimValueAssign (rest cursor.old) (shown (two_of (text_of cursor.old)) result (rest cursor.new)) }
-    ensures text { text_of cursor.new ≡ text_of cursor.old }
+    ensures { Parses G.ClaimValueAssign two_of cursor.old result cursor.new }
 {
-    if cursor.sees(Terminal::KeyValue) {
+    if cursor.sees(&[Terminal::KeyValue]) {
         value_first(cursor)
     } else {
         value_type_first(cursor)
@@ -68,8 +61,7 @@ fn claim_value_assign<'a>(cursor: &mut Cursor<'a>) -> Result<(ExprRead, ExprRead
 }
 
 fn type_first<'a>(cursor: &mut Cursor<'a>) -> Result<ActionRead, Stop>
-    ensures reads { Reading G.assigns_type_first (rest cursor.old) (shown (action_of (text_of cursor.old)) result (rest cursor.new)) }
-    ensures text { text_of cursor.new ≡ text_of cursor.old }
+    ensures { Parses G.assigns_type_first action_of cursor.old result cursor.new }
 {
     let n = claim_type_assign(cursor)?;
     cursor.expect(Terminal::Comma)?;
@@ -78,8 +70,7 @@ fn type_first<'a>(cursor: &mut Cursor<'a>) -> Result<ActionRead, Stop>
 }
 
 fn type_last<'a>(cursor: &mut Cursor<'a>) -> Result<ActionRead, Stop>
-    ensures reads { Reading G.assigns_type_last (rest cursor.old) (shown (action_of (text_of cursor.old)) result (rest cursor.new)) }
-    ensures text { text_of cursor.new ≡ text_of cursor.old }
+    ensures { Parses G.assigns_type_last action_of cursor.old result cursor.new }
 {
     let (v, y) = claim_value_assign(cursor)?;
     cursor.expect(Terminal::Comma)?;
@@ -88,10 +79,9 @@ fn type_last<'a>(cursor: &mut Cursor<'a>) -> Result<ActionRead, Stop>
 }
 
 fn claim_new<'a>(cursor: &mut Cursor<'a>) -> Result<ActionRead, Stop>
-    ensures reads { Reading G.ClaimNew (rest cursor.old) (shown (action_of (text_of cursor.old)) result (rest cursor.new)) }
-    ensures text { text_of cursor.new ≡ text_of cursor.old }
+    ensures { Parses G.ClaimNew action_of cursor.old result cursor.new }
 {
-    if cursor.sees(Terminal::KeyType) {
+    if cursor.sees(&[Terminal::KeyType]) {
         type_first(cursor)
     } else {
         type_last(cursor)
@@ -99,8 +89,7 @@ fn claim_new<'a>(cursor: &mut Cursor<'a>) -> Result<ActionRead, Stop>
 }
 
 fn claim_copy<'a>(cursor: &mut Cursor<'a>) -> Result<ActionRead, Stop>
-    ensures reads { Reading G.ClaimCopy (rest cursor.old) (shown (action_of (text_of cursor.old)) result (rest cursor.new)) }
-    ensures text { text_of cursor.new ≡ text_of cursor.old }
+    ensures { Parses G.ClaimCopy action_of cursor.old result cursor.new }
 {
     cursor.expect(Terminal::KeyClaim)?;
     cursor.expect(Terminal::Assign)?;
@@ -109,10 +98,9 @@ fn claim_copy<'a>(cursor: &mut Cursor<'a>) -> Result<ActionRead, Stop>
 }
 
 fn issue_params<'a>(cursor: &mut Cursor<'a>) -> Result<ActionRead, Stop>
-    ensures reads { Reading G.IssueParams (rest cursor.old) (shown (action_of (text_of cursor.old)) result (rest cursor.new)) }
-    ensures text { text_of cursor.new ≡ text_of cursor.old }
+    ensures { Parses G.IssueParams action_of cursor.old result cursor.new }
 {
-    if cursor.sees(Terminal::KeyClaim) {
+    if cursor.sees(&[Terminal::KeyClaim]) {
         claim_copy(cursor)
     } else {
         claim_new(cursor)
@@ -120,8 +108,7 @@ fn issue_params<'a>(cursor: &mut Cursor<'a>) -> Result<ActionRead, Stop>
 }
 
 pub fn rule_action<'a>(cursor: &mut Cursor<'a>) -> Result<ActionRead, Stop>
-    ensures reads { Reading G.RuleAction (rest cursor.old) (shown (action_of (text_of cursor.old)) result (rest cursor.new)) }
-    ensures text { text_of cursor.new ≡ text_of cursor.old }
+    ensures { Parses G.RuleAction action_of cursor.old result cursor.new }
 {
     cursor.expect(Terminal::KeyIssue)?;
     cursor.expect(Terminal::OpenRound)?;

@@ -3,7 +3,7 @@ ghost use Rattle.std.specs.Prelude.{◌≡◌};
 ghost use Rattle.grammar.specs.Parse as G;
 ghost use Rattle.grammar.specs.Readers.{next};
 ghost use Rattle.cursor.specs.Pieces.{word_of};
-ghost use Rattle.cursor.specs.Reading.{shown, rest, Reading, text_of};
+ghost use Rattle.cursor.specs.Reading.{Parses, rest};
 ghost use Rattle.conditions.specs.Shown.{oper_of, cond_of, conds_of, half_of};
 
 use super::tree::{Cond, Conds, Oper};
@@ -11,10 +11,9 @@ use cursor::{Cursor, Piece, Stop};
 use words::Terminal;
 
 fn literal_expr<'a>(cursor: &mut Cursor<'a>) -> Result<Piece, Stop>
-    ensures reads { Reading G.LiteralExpr (rest cursor.old) (shown (word_of (text_of cursor.old)) result (rest cursor.new)) }
-    ensures text { text_of cursor.new ≡ text_of cursor.old }
+    ensures { Parses G.LiteralExpr word_of cursor.old result cursor.new }
 {
-    if cursor.sees(Terminal::Literal) {
+    if cursor.sees(&[Terminal::Literal]) {
         cursor.expect(Terminal::Literal)
     } else {
         cursor.value_type_literal()
@@ -22,16 +21,15 @@ fn literal_expr<'a>(cursor: &mut Cursor<'a>) -> Result<Piece, Stop>
 }
 
 fn cond_oper<'a>(cursor: &mut Cursor<'a>) -> Result<Oper, Stop>
-    ensures reads { Reading G.CondOper (rest cursor.old) (shown (oper_of (text_of cursor.old)) result (rest cursor.new)) }
-    ensures text { text_of cursor.new ≡ text_of cursor.old }
+    ensures { Parses G.CondOper oper_of cursor.old result cursor.new }
 {
-    if cursor.sees(Terminal::Equal) {
+    if cursor.sees(&[Terminal::Equal]) {
         cursor.expect(Terminal::Equal)?;
         Ok(Oper::Equal)
-    } else if cursor.sees(Terminal::NotEqual) {
+    } else if cursor.sees(&[Terminal::NotEqual]) {
         cursor.expect(Terminal::NotEqual)?;
         Ok(Oper::NotEqual)
-    } else if cursor.sees(Terminal::Matches) {
+    } else if cursor.sees(&[Terminal::Matches]) {
         cursor.expect(Terminal::Matches)?;
         Ok(Oper::Matches)
     } else {
@@ -41,8 +39,7 @@ fn cond_oper<'a>(cursor: &mut Cursor<'a>) -> Result<Oper, Stop>
 }
 
 fn type_cond<'a>(cursor: &mut Cursor<'a>) -> Result<Cond<Piece>, Stop>
-    ensures reads { Reading G.TypeCond (rest cursor.old) (shown (cond_of (text_of cursor.old)) result (rest cursor.new)) }
-    ensures text { text_of cursor.new ≡ text_of cursor.old }
+    ensures { Parses G.TypeCond cond_of cursor.old result cursor.new }
 {
     cursor.expect(Terminal::KeyType)?;
     let o = cond_oper(cursor)?;
@@ -51,8 +48,7 @@ fn type_cond<'a>(cursor: &mut Cursor<'a>) -> Result<Cond<Piece>, Stop>
 }
 
 fn val_cond<'a>(cursor: &mut Cursor<'a>) -> Result<(Oper, Piece), Stop>
-    ensures reads { Reading G.ValCond (rest cursor.old) (shown (half_of (text_of cursor.old)) result (rest cursor.new)) }
-    ensures text { text_of cursor.new ≡ text_of cursor.old }
+    ensures { Parses G.ValCond half_of cursor.old result cursor.new }
 {
     cursor.expect(Terminal::KeyValue)?;
     let o = cond_oper(cursor)?;
@@ -61,8 +57,7 @@ fn val_cond<'a>(cursor: &mut Cursor<'a>) -> Result<(Oper, Piece), Stop>
 }
 
 fn val_type_cond<'a>(cursor: &mut Cursor<'a>) -> Result<(Oper, Piece), Stop>
-    ensures reads { Reading G.ValTypeCond (rest cursor.old) (shown (half_of (text_of cursor.old)) result (rest cursor.new)) }
-    ensures text { text_of cursor.new ≡ text_of cursor.old }
+    ensures { Parses G.ValTypeCond half_of cursor.old result cursor.new }
 {
     cursor.expect(Terminal::KeyValueType)?;
     let o = cond_oper(cursor)?;
@@ -71,8 +66,7 @@ fn val_type_cond<'a>(cursor: &mut Cursor<'a>) -> Result<(Oper, Piece), Stop>
 }
 
 fn value_first<'a>(cursor: &mut Cursor<'a>) -> Result<Cond<Piece>, Stop>
-    ensures reads { Reading G.read_value_first (rest cursor.old) (shown (cond_of (text_of cursor.old)) result (rest cursor.new)) }
-    ensures text { text_of cursor.new ≡ text_of cursor.old }
+    ensures { Parses G.read_value_first cond_of cursor.old result cursor.new }
 {
     let (o, l) = val_cond(cursor)?;
     cursor.expect(Terminal::Comma)?;
@@ -81,8 +75,7 @@ fn value_first<'a>(cursor: &mut Cursor<'a>) -> Result<Cond<Piece>, Stop>
 }
 
 fn value_type_first<'a>(cursor: &mut Cursor<'a>) -> Result<Cond<Piece>, Stop>
-    ensures reads { Reading G.read_value_type_first (rest cursor.old) (shown (cond_of (text_of cursor.old)) result (rest cursor.new)) }
-    ensures text { text_of cursor.new ≡ text_of cursor.old }
+    ensures { Parses G.read_value_type_first cond_of cursor.old result cursor.new }
 {
     let (p, m) = val_type_cond(cursor)?;
     cursor.expect(Terminal::Comma)?;
@@ -91,10 +84,9 @@ fn value_type_first<'a>(cursor: &mut Cursor<'a>) -> Result<Cond<Piece>, Stop>
 }
 
 fn value_cond<'a>(cursor: &mut Cursor<'a>) -> Result<Cond<Piece>, Stop>
-    ensures reads { Reading G.ValueCond (rest cursor.old) (shown (cond_of (text_of cursor.old)) result (rest cursor.new)) }
-    ensures text { text_of cursor.new ≡ text_of cursor.old }
+    ensures { Parses G.ValueCond cond_of cursor.old result cursor.new }
 {
-    if cursor.sees(Terminal::KeyValue) {
+    if cursor.sees(&[Terminal::KeyValue]) {
         value_first(cursor)
     } else {
         value_type_first(cursor)
@@ -102,10 +94,9 @@ fn value_cond<'a>(cursor: &mut Cursor<'a>) -> Result<Cond<Piece>, Stop>
 }
 
 fn cond<'a>(cursor: &mut Cursor<'a>) -> Result<Cond<Piece>, Stop>
-    ensures reads { Reading G.ACond (rest cursor.old) (shown (cond_of (text_of cursor.old)) result (rest cursor.new)) }
-    ensures text { text_of cursor.new ≡ text_of cursor.old }
+    ensures { Parses G.ACond cond_of cursor.old result cursor.new }
 {
-    if cursor.sees_either(Terminal::KeyValue, Terminal::KeyValueType) {
+    if cursor.sees(&[Terminal::KeyValue, Terminal::KeyValueType]) {
         value_cond(cursor)
     } else {
         type_cond(cursor)
@@ -115,17 +106,20 @@ fn cond<'a>(cursor: &mut Cursor<'a>) -> Result<Cond<Piece>, Stop>
 fn sees_cond<'a>(cursor: &Cursor<'a>) -> bool
     ensures { result ≡ next G.conds_begin (rest cursor.now) }
 {
-    cursor.sees_either(Terminal::KeyValue, Terminal::KeyValueType) || cursor.sees(Terminal::KeyType)
+    cursor.sees(&[
+        Terminal::KeyValue,
+        Terminal::KeyValueType,
+        Terminal::KeyType,
+    ])
 }
 
 fn cond_list<'a>(cursor: &mut Cursor<'a>) -> Result<Conds, Stop>
-    ensures reads { Reading G.CondList (rest cursor.old) (shown (conds_of (text_of cursor.old)) result (rest cursor.new)) }
-    ensures text { text_of cursor.new ≡ text_of cursor.old }
+    ensures { Parses G.CondList conds_of cursor.old result cursor.new }
 {
     let mut all = Conds::new();
     for _ in 0..4usize {
         all.push(cond(cursor)?);
-        if !cursor.sees(Terminal::Comma) {
+        if !cursor.sees(&[Terminal::Comma]) {
             return Ok(all);
         }
         cursor.expect(Terminal::Comma)?;
@@ -138,8 +132,7 @@ fn cond_list<'a>(cursor: &mut Cursor<'a>) -> Result<Conds, Stop>
 }
 
 pub fn opt_cond_list<'a>(cursor: &mut Cursor<'a>) -> Result<Conds, Stop>
-    ensures reads { Reading G.OptCondList (rest cursor.old) (shown (conds_of (text_of cursor.old)) result (rest cursor.new)) }
-    ensures text { text_of cursor.new ≡ text_of cursor.old }
+    ensures { Parses G.OptCondList conds_of cursor.old result cursor.new }
 {
     if sees_cond(cursor) {
         cond_list(cursor)

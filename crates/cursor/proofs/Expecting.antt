@@ -19,10 +19,10 @@ use Rattle.cursor.specs.declared.ahead.Ahead.{Ahead}
 use Rattle.cursor.specs.declared.ahead.Ahead.TheVariants as ahead
 use Rattle.cursor.specs.declared.pieces.Piece.{Piece}
 
-abbrev look : Word → List Word → Bool → Got Word
+abbrev pub look : Word → List Word → Bool → Got Word
 look w ws b = elim b as (λ _. Got Word) [ true ↦ got w ws | false ↦ useless (w ∷ ws) ]
 
-abbrev slip_at : Slip → ℕ → Word
+abbrev pub slip_at : Slip → ℕ → Word
 slip_at s at = record { kind = unreadable s; at = at; text = [] }
 
 abbrev among : List Terminal → Kind → Bool
@@ -78,7 +78,7 @@ module _ (ks : List Terminal) (us : List ℕ) (a : Ahead) where
   sees_word p end b i h = h ∙ sym (next_is ks (word_of us p) (from us end)) ∙ ap (λ z. next ks (ahead_words us z)) (sym i)
 
 -- no word stands ahead
-abbrev Wordless : Ahead → Type 0
+abbrev pub Wordless : Ahead → Type 0
 Wordless a = (p : Piece) (end : ℕ) → a ≡ ahead.Word p end → ⊥
 
 module _ (ks : List Terminal) (us : List ℕ) where

@@ -1,3 +1,4 @@
 pub mod Expecting
 pub mod Many
 pub mod Items
+pub mod Choosing

@@ -2,6 +2,7 @@
 ghost use Rattle.std.specs.Prelude.{◌≡◌, ◌+◌, ◌-◌, ◌<◌};
 ghost use Rattle.std.specs.List.{list_any};
 ghost use Rattle.words.specs.Terminals.{is, terminal};
+ghost use Rattle.cursor.specs.Reading.{beside};
 ghost use Rattle.words.specs.declared.terminals.Terminal.TheVariants.{Identifier};
 
 use words::Terminal;
@@ -21,6 +22,16 @@ impl Piece {
         ensures { result ≡ list_any (λ k. is k (terminal self.now.terminal)) kinds.now }
     {
         kinds.contains(&self.terminal)
+    }
+
+    // What stands in a table beside the word's terminal.
+    pub(crate) fn beside<T: Copy>(&self, table: &[(Terminal, T)]) -> Option<T>
+        ensures { result ≡ beside table.now (terminal self.now.terminal) }
+    {
+        table
+            .iter()
+            .find(|entry| entry.0 == self.terminal)
+            .map(|entry| entry.1)
     }
 
     // A word that has no units of its own.

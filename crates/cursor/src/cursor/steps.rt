@@ -5,7 +5,7 @@ ghost use Rattle.words.specs.Words.{words};
 ghost use Rattle.grammar.specs.Parse as G;
 ghost use Rattle.grammar.specs.Readers.{next, t};
 ghost use Rattle.cursor.specs.Ahead.{short};
-ghost use Rattle.cursor.specs.Reading.{shown, rest, Reading, text_of, any_of};
+ghost use Rattle.cursor.specs.Reading.{Parses, rest, Reading, text_of, any_of, choice};
 ghost use Rattle.cursor.specs.Pieces.{word_of};
 
 use super::super::ahead::{Ahead, look_from};
@@ -37,8 +37,7 @@ impl<'a> Cursor<'a> {
 
     // One word, which is one of these terminals.
     pub fn expect_any(&mut self, kinds: &[Terminal]) -> Result<Piece, Stop>
-        ensures reads { Reading (any_of kinds.now) (rest self.old) (shown (word_of (text_of self.old)) result (rest self.new)) }
-        ensures text { text_of self.new ≡ text_of self.old }
+        ensures { Parses (any_of kinds.now) word_of self.old result self.new }
     {
         let Ahead::Word(piece, end) = self.ahead else {
             return Err(Stop::Useless);
@@ -50,18 +49,30 @@ impl<'a> Cursor<'a> {
         Ok(piece)
     }
 
+    // One word of a table's terminals, for what stands beside the terminal.
+    pub fn expect_as<T: Copy>(&mut self, table: &[(Terminal, T)]) -> Result<T, Stop>
+        ensures { Parses (choice table.now) (λ us x. x) self.old result self.new }
+    {
+        let Ahead::Word(word, behind) = self.ahead else {
+            return Err(Stop::Useless);
+        };
+        let Some(value) = word.beside(table) else {
+            return Err(Stop::Useless);
+        };
+        self.ahead = look_from(self.text, behind);
+        Ok(value)
+    }
+
     // One word of this terminal.
     pub fn expect(&mut self, k: Terminal) -> Result<Piece, Stop>
-        ensures reads { Reading (t k) (rest self.old) (shown (word_of (text_of self.old)) result (rest self.new)) }
-        ensures text { text_of self.new ≡ text_of self.old }
+        ensures { Parses (t k) word_of self.old result self.new }
     {
         self.expect_any(&[k])
     }
 
     // One of the four value types.
     pub fn value_type_literal(&mut self) -> Result<Piece, Stop>
-        ensures reads { Reading G.ValueTypeLiteral (rest self.old) (shown (word_of (text_of self.old)) result (rest self.new)) }
-        ensures text { text_of self.new ≡ text_of self.old }
+        ensures { Parses G.ValueTypeLiteral word_of self.old result self.new }
     {
         self.expect_any(&[
             Terminal::Int64Type,
