@@ -1,5 +1,5 @@
 -- The bytes of records, one record after the other.
-use Rattle.std.proofs.Common.{◌≡◌, ℕ, zero, suc, ◌+◌, ◌<◌, ◌≤◌, List, [], ◌∷◌, ◌++◌, length, get_or, take, drop, Some, None, sym, refl, ap, ◌∙◌, append_assoc, arith, length-append}
+use Rattle.std.proofs.Common.{◌≡◌, ℕ, zero, suc, ◌+◌, ◌<◌, ◌≤◌, List, [], ◌∷◌, ◌++◌, length, get_or, take, drop, Some, None, sym, refl, ap, ◌∙◌, subst, append_assoc, arith, length-append}
 use Rattle.std.proofs.ByRecursion.{All-push, All-get_or}
 use Rattle.std.proofs.lemmas.List.{take_more, map_push, flat_map_more, map-append, take-append-drop, take_all}
 use Rattle.std.proofs.lemmas.Option.{slice_get-get_or}
@@ -42,22 +42,11 @@ body-append [] ds = refl
 body-append (c ∷ cs) ds = ap (λ z. encode c ++ z) (body-append cs ds) ∙ sym (append_assoc (encode c) (body cs) (body ds))
 
 module _ (rules packet' : List ℕ) (cs : List Claim) where
-  pub body_front : (i : ℕ) → length (shown_body rules packet' (take i cs)) ≤ length (shown_body rules packet' cs)
-  body_front i =
-      let e : shown_body rules packet' cs ≡ shown_body rules packet' (take i cs) ++ shown_body rules packet' (drop i cs) =
-      ap (shown_body rules packet') (sym (take-append-drop i cs)) ∙ ap body (map-append (shown_claim rules packet') (take i cs) (drop i cs))
-      ∙ body-append (shown_claims rules packet' (take i cs)) (shown_claims rules packet' (drop i cs)) in
-      let l = ap length e in
-      omega (arith, length-append (shown_body rules packet' (take i cs)) (shown_body rules packet' (drop i cs)))
-
   body_all : (i : ℕ) → length cs ≤ i → shown_body rules packet' (take i cs) ≡ shown_body rules packet' cs
   body_all i h = ap (shown_body rules packet') (take_all i cs h)
 
   pub size_all : (i n : ℕ) → length cs ≤ i → n ≡ length (shown_body rules packet' (take i cs)) → n ≡ length (shown_body rules packet' cs)
   size_all i n h e = e ∙ ap length (body_all i h)
-
-  pub written_all : (i : ℕ) (old p : List ℕ) → length cs ≤ i → p ≡ written old 3 (shown_body rules packet' (take i cs)) → p ≡ written old 3 (shown_body rules packet' cs)
-  written_all i old p h e = e ∙ ap (written old 3) (body_all i h)
 
   module _ (i : ℕ) (c : Claim) (e : Some c ≡ slice_get cs i) where
     body_more : shown_body rules packet' (take (i + 1) cs) ≡ shown_body rules packet' (take i cs) ++ encode (shown_claim rules packet' c)
@@ -73,11 +62,40 @@ module _ (rules packet' : List ℕ) (cs : List Claim) where
     pub writable_more : AllByRecursion (Writable rules packet') (take i cs) → Writable rules packet' c → AllByRecursion (Writable rules packet') (take (i + 1) cs)
     writable_more h w = rw (take_found cs i c e) (All-push (Writable rules packet') (take i cs) c h w)
 
-    pub written_next : (old p q : List ℕ) (at : ℕ) → 3 + length (shown_body rules packet' cs) ≤ length old → at ≡ 3 + length (shown_body rules packet' (take i cs))
-        → p ≡ written old 3 (shown_body rules packet' (take i cs)) → q ≡ written p at (encode (shown_claim rules packet' c)) → q ≡ written old 3 (shown_body rules packet' (take (i + 1) cs))
-    written_next old p q at room ia ip iq =
-        let f = body_front i in
-        iq ∙ ap (λ z. written z at (encode (shown_claim rules packet' c))) ip
-        ∙ ap (λ n. written (written old 3 (shown_body rules packet' (take i cs))) n (encode (shown_claim rules packet' c))) ia
-        ∙ written_more old 3 (shown_body rules packet' (take i cs)) (encode (shown_claim rules packet' c)) (omega arith)
-        ∙ ap (written old 3) (sym body_more)
+all_mid : {X : Type 0} (P : X → Type 0) (ys zs : List X) (x : X) → AllByRecursion P (ys ++ x ∷ zs) → P x
+all_mid P [] zs x h = h.0
+all_mid P (y ∷ ys) zs x h = all_mid P ys zs x h.1
+
+-- the records of cs, of which ys are done and c is next
+module _ (rules packet' : List ℕ) (cs ys zs : List Claim) (c : Claim) (e : ys ++ c ∷ zs ≡ cs) where
+  pub next_whole : (ys ++ c ∷ []) ++ zs ≡ cs
+  next_whole = append_assoc ys (c ∷ []) zs ∙ e
+
+  pub next_writable : AllByRecursion (Writable rules packet') cs → Writable rules packet' c
+  next_writable h = all_mid (Writable rules packet') ys zs c (subst (AllByRecursion (Writable rules packet')) (sym e) h)
+
+  next_body : shown_body rules packet' (ys ++ c ∷ []) ≡ shown_body rules packet' ys ++ encode (shown_claim rules packet' c)
+  next_body = ap body (map_push (shown_claim rules packet') ys c) ∙ sym (flat_map_more encode [] (shown_claims rules packet' ys) (shown_claim rules packet' c))
+
+  pub next_size : length (shown_body rules packet' (ys ++ c ∷ [])) ≡ length (shown_body rules packet' ys) + size (shown_claim rules packet' c)
+  next_size =
+      ap length next_body ∙ length-append (shown_body rules packet' ys) (encode (shown_claim rules packet' c))
+      ∙ ap (λ n. length (shown_body rules packet' ys) + n) (length-encode (shown_claim rules packet' c))
+
+  pub next_room : length (shown_body rules packet' ys) + size (shown_claim rules packet' c) ≤ length (shown_body rules packet' cs)
+  next_room =
+      let parts : shown_body rules packet' cs ≡ shown_body rules packet' (ys ++ c ∷ []) ++ shown_body rules packet' zs =
+      ap (shown_body rules packet') (sym next_whole) ∙ ap body (map-append (shown_claim rules packet') (ys ++ c ∷ []) zs)
+      ∙ body-append (shown_claims rules packet' (ys ++ c ∷ [])) (shown_claims rules packet' zs) in
+      let l = ap length parts in
+      let s = next_size in
+      omega (arith, length-append (shown_body rules packet' (ys ++ c ∷ [])) (shown_body rules packet' zs))
+
+  pub next_written : (old p q : List ℕ) (at : ℕ) → 3 + length (shown_body rules packet' cs) ≤ length old → at ≡ 3 + length (shown_body rules packet' ys)
+      → p ≡ written old 3 (shown_body rules packet' ys) → q ≡ written p at (encode (shown_claim rules packet' c)) → q ≡ written old 3 (shown_body rules packet' (ys ++ c ∷ []))
+  next_written old p q at room ia ip iq =
+      let r = next_room in
+      iq ∙ ap (λ z. written z at (encode (shown_claim rules packet' c))) ip
+      ∙ ap (λ n. written (written old 3 (shown_body rules packet' ys)) n (encode (shown_claim rules packet' c))) ia
+      ∙ written_more old 3 (shown_body rules packet' ys) (encode (shown_claim rules packet' c)) (omega arith)
+      ∙ ap (written old 3) (sym next_body)
