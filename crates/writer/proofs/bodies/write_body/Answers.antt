@@ -1,4 +1,4 @@
-use Rattle.std.proofs.Common.{[], ◌++◌, sym, ap, ◌∙◌, arith, append-nil}
+use Rattle.std.proofs.Common.{◌++◌, sym, ap, ◌∙◌, arith, append-nil}
 use Rattle.writer.specs.Shown.{shown_body}
 use Rattle.writer.specs.Writing.{written}
 use Rattle.writer.proofs.BodyBytes.{next_whole, next_writable, next_size, next_room, next_written}
@@ -18,8 +18,7 @@ pub loop-claim-preserved : goal.loop-claim-preserved
 loop-claim-preserved g c =
     let s = next_size c.args.texts.now.rules.now c.args.texts.now.packet.now (g.S.Source.list c.args.source.now) c.loop-claim.yielded _ c.in-Some.claim (ap (λ zs. c.loop-claim.yielded ++ zs) (sym c.in-Some.ensures.steps) ∙ c.loop-claim.invariant.2) in
     let inv = c.loop-claim.invariant.3 in
-    let place = c.write_claim-at.ensures.place in
-    (
+    let place = c.write_claim-at.ensures.place in (
       tt,
       tt,
       next_whole c.args.texts.now.rules.now c.args.texts.now.packet.now (g.S.Source.list c.args.source.now) c.loop-claim.yielded _ c.in-Some.claim (ap (λ zs. c.loop-claim.yielded ++ zs) (sym c.in-Some.ensures.steps) ∙ c.loop-claim.invariant.2),
