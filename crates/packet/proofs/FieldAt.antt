@@ -1,15 +1,14 @@
 -- A field of a packet at a place.
-use Rattle.std.proofs.Common.{◌≡◌, ℕ, ◌+◌, ◌*◌, ◌<◌, ◌≤◌, cond, eqb, leb, List, [], ◌∷◌, length, get_or, take, drop, ℤ, Some, None, Ok, Err, sym, refl, ap, ◌∙◌, add-zero, arith, w64, to_z}
+use Rattle.std.proofs.Common.{◌≡◌, ℕ, ◌+◌, ◌*◌, ◌<◌, ◌≤◌, cond, eqb, leb, List, [], ◌∷◌, length, get_or, take, drop, Some, None, Ok, Err, sym, refl, ap, ◌∙◌, arith, w64}
 use Rattle.std.specs.Int.Digits.{number_from_digits}
-use Rattle.std.proofs.lemmas.List.{drop_more, drop_all, length-drop, length-take-le, get_or-drop}
+use Rattle.std.specs.Int.{from_be_bytes}
+use Rattle.std.proofs.lemmas.List.{drop_more, drop_all, length-drop, length-take-le, take_all}
 use Rattle.std.proofs.lemmas.Bool.{cond-true, cond-false, le-leb, lt-leb}
 use Rattle.faults.specs.declared.Cause.TheVariants.{ClaimPastEnd, BooleanOverOne}
 use Rattle.claims.specs.declared.texts.Origin.TheVariants.{Packet}
-use Rattle.claims.specs.declared.values.ValueType.{ValueType}
-use Rattle.claims.specs.declared.values.ValueType.TheVariants.{Uint64, Int64}
 use Rattle.units.specs.Units.{units}
-use Rattle.claims.specs.Meaning.{uint64, int64, boolean}
-use Rattle.packet.specs.Judge.{text_in, boolean_in, value_in}
+use Rattle.claims.specs.Meaning.{boolean}
+use Rattle.packet.specs.Judge.{need, text_in, boolean_in}
 use Rattle.packet.specs.Held.{Lies}
 use Rattle.units.proofs.Texts.{length-units}
 
@@ -26,6 +25,12 @@ module _ (bs : List ℕ) (at : ℕ) where
 
     pub text_there : at + 1 + 2 * n ≤ length bs → text_in (drop at bs) ≡ Some (units (take (2 * n) (drop (at + 1) bs)))
     text_there room = let l = length-drop (at + 1) bs in at_text ∙ cond-true _ _ _ (le-leb (2 * n) _ (omega arith))
+
+  pub no_text : text_in (drop at bs) ≡ None → Err ClaimPastEnd ≡ need (text_in (drop at bs)) ClaimPastEnd (λ us. Ok us)
+  no_text e = sym (ap (λ o. need o ClaimPastEnd (λ us. Ok us)) e)
+
+  pub a_text : (us : List ℕ) → text_in (drop at bs) ≡ Some us → Ok us ≡ need (text_in (drop at bs)) ClaimPastEnd (λ us. Ok us)
+  a_text us e = sym (ap (λ o. need o ClaimPastEnd (λ us. Ok us)) e)
 
   pub text_lies : (n : ℕ) → at + 1 + 2 * n ≤ length bs → Lies bs at (record { origin = Packet; place = at + 1; len = n })
   text_lies n room =
@@ -48,31 +53,11 @@ eight_reads (a ∷ b ∷ c ∷ d ∷ e ∷ f ∷ []) h = absurd (omega arith)
 eight_reads (a ∷ b ∷ c ∷ d ∷ e ∷ f ∷ g ∷ []) h = absurd (omega arith)
 eight_reads (a ∷ b ∷ c ∷ d ∷ e ∷ f ∷ g ∷ i ∷ bs) h = omega arith
 
-pub eight_at : (bs : List ℕ) (at : ℕ) → at + 8 ≤ length bs
-    → number_from_digits 256 (take 8 (drop at bs))
-    ≡ get_or bs at 0 * 72057594037927936 + get_or bs (at + 1) 0 * 281474976710656 + get_or bs (at + 2) 0 * 1099511627776 + get_or bs (at + 3) 0 * 4294967296 + get_or bs (at + 4) 0 * 16777216 + get_or bs (at + 5) 0 * 65536 + get_or bs (at + 6) 0 * 256 + get_or bs (at + 7) 0
-eight_at bs at h =
-    let l = length-drop at bs in
-    let z : get_or bs (at + 0) 0 ≡ get_or bs at 0 = ap (λ n. get_or bs n 0) (add-zero at) in
-    let r = eight_reads (drop at bs) (omega arith) in
-    omega (arith, get_or-drop at bs 0 0, get_or-drop at bs 1 0, get_or-drop at bs 2 0, get_or-drop at bs 3 0, get_or-drop at bs 4 0, get_or-drop at bs 5 0, get_or-drop at bs 6 0, get_or-drop at bs 7 0)
-
-module _ (bs : List ℕ) (at : ℕ) (k : ValueType) where
-  pub uint_none : k ≡ Uint64 → length bs < at + 8 → value_in k (drop at bs) ≡ Err ClaimPastEnd
-  uint_none is h = let l = length-drop at bs in ap (λ x. value_in x (drop at bs)) is ∙ cond-false (leb 8 (length (drop at bs))) _ _ (lt-leb 8 _ (omega arith))
-
-  pub int_none : k ≡ Int64 → length bs < at + 8 → value_in k (drop at bs) ≡ Err ClaimPastEnd
-  int_none is h = let l = length-drop at bs in ap (λ x. value_in x (drop at bs)) is ∙ cond-false (leb 8 (length (drop at bs))) _ _ (lt-leb 8 _ (omega arith))
-
-  pub uint_there : (n : ℕ) → k ≡ Uint64 → at + 8 ≤ length bs → n ≡ number_from_digits 256 (take 8 (drop at bs)) → value_in k (drop at bs) ≡ Ok (uint64 n)
-  uint_there n is h e =
-      let l = length-drop at bs in
-      ap (λ x. value_in x (drop at bs)) is ∙ cond-true (leb 8 (length (drop at bs))) _ _ (le-leb 8 _ (omega arith)) ∙ ap (λ m. Ok (uint64 m)) (sym e)
-
-  pub int_there : (z : ℤ) (n : ℕ) → k ≡ Int64 → at + 8 ≤ length bs → n ≡ number_from_digits 256 (take 8 (drop at bs)) → z ≡ to_z w64 n → value_in k (drop at bs) ≡ Ok (int64 z)
-  int_there z n is h e f =
-      let l = length-drop at bs in
-      ap (λ x. value_in x (drop at bs)) is ∙ cond-true (leb 8 (length (drop at bs))) _ _ (le-leb 8 _ (omega arith)) ∙ ap (λ m. Ok (int64 (to_z w64 m))) (sym e) ∙ ap (λ m. Ok (int64 m)) (sym f)
+-- what eight bytes at the front write
+pub eight_number : (bs e : List ℕ) → 8 ≤ length bs → e ≡ take 8 bs → from_be_bytes w64 e ≡ number_from_digits 256 (take 8 bs)
+eight_number bs e h is =
+    let l : length e ≡ 8 = ap length is ∙ length-take-le 8 bs h in
+    sym (eight_reads e (omega arith)) ∙ ap (number_from_digits 256) (take_all 8 e (omega arith) ∙ is)
 
 -- a boolean
 module _ (bs : List ℕ) (at : ℕ) where

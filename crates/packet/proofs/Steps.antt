@@ -1,6 +1,7 @@
 -- The claim at a place, field by field, as the code reads it.
 use Rattle.faults.specs.declared.Cause.{Cause}
-use Rattle.std.proofs.Common.{◌≡◌, ℕ, ◌+◌, true, false, List, drop, Some, None, Ok, Err, Result, sym, ap, ◌∙◌, subst, arith}
+use Rattle.std.proofs.Common.{◌≡◌, ℕ, ◌+◌, true, false, List, drop, Some, None, Ok, Err, Option, Result, sym, ap, ◌∙◌, arith}
+use Rattle.std.specs.Option.{ok_or}
 use Rattle.std.proofs.lemmas.List.{drop-drop}
 use Rattle.std.proofs.lemmas.Bool.{cond-true, cond-false}
 use Rattle.faults.specs.declared.Cause.TheVariants.{ClaimPastEnd, UnknownValueType, IllFormedText}
@@ -10,11 +11,19 @@ use Rattle.claims.specs.declared.values.Value.{Value}
 use Rattle.claims.specs.declared.records.Claim.{Claim}
 use Rattle.claims.specs.Meaning as meaning
 use Rattle.claims.specs.Meaning.{named}
-use Rattle.packet.specs.Judge.{text_in, size_of_text, value_in, well_formed_claim, from_value, from_named, from_word, from_type, one_claim_in}
-use Rattle.packet.specs.Held.{held_text, held_value, held_claim, after_text, Lies, ValueLies, ClaimLies}
+use Rattle.packet.specs.Judge.{need, text_in, size_of_text, value_in, well_formed_claim, from_value, from_named, from_word, from_type, one_claim_in}
+use Rattle.packet.specs.Held.{held_text, held_value, held_claim, after_text, Lies}
 
 abbrev pub claim_at : Text → Text → Value → Claim
 claim_at t w v = record { typ = t; word = w; value = v }
+
+pub need_some : {X : Type 0} (o : Option X) (x : X) → Ok x ≡ need o ClaimPastEnd (λ y. Ok y) → o ≡ Some x
+need_some None x e = let z : ◌≡◌ {A = ℕ} 0 1 = cc in absurd (omega arith)
+need_some (Some y) x e = let is : y ≡ x = cc in ap Some is
+
+pub unknown_is : (o : Option ValueType) (f : Cause) → ◌≡◌ {A = Result ValueType Cause} (Err f) (ok_or o UnknownValueType) → o ≡ None → f ≡ UnknownValueType
+unknown_is None f e n = cc
+unknown_is (Some k) f e n = let z : ◌≡◌ {A = ℕ} 0 1 = cc in absurd (omega arith)
 
 module _ (bs : List ℕ) (at : ℕ) (t : Text) (ft : Lies bs at t) (it : text_in (drop at bs) ≡ Some (held_text bs t)) where
   past_type : drop (size_of_text (held_text bs t)) (drop at bs) ≡ drop (after_text t) bs
@@ -22,9 +31,6 @@ module _ (bs : List ℕ) (at : ℕ) (t : Text) (ft : Lies bs at t) (it : text_in
 
   from_type_read : one_claim_in (drop at bs) ≡ from_word (drop at bs) (held_text bs t) (text_in (drop (after_text t) bs))
   from_type_read = ap (from_type (drop at bs)) it ∙ ap (λ z. from_word (drop at bs) (held_text bs t) (text_in z)) past_type
-
-  pub word_none : (p : ℕ) → p ≡ after_text t → text_in (drop p bs) ≡ None → one_claim_in (drop at bs) ≡ Err ClaimPastEnd
-  word_none p ip e = from_type_read ∙ ap (λ n. from_word (drop at bs) (held_text bs t) (text_in (drop n bs))) (sym ip) ∙ ap (from_word (drop at bs) (held_text bs t)) e
 
   module _ (p : ℕ) (ip : p ≡ after_text t) (w : Text) (fw : Lies bs p w) (iw : text_in (drop p bs) ≡ Some (held_text bs w)) where
     past_word : drop (size_of_text (held_text bs t) + size_of_text (held_text bs w)) (drop at bs) ≡ drop (after_text w) bs
@@ -56,11 +62,3 @@ module _ (bs : List ℕ) (at : ℕ) (t : Text) (ft : Lies bs at t) (it : text_in
 
           pub claim_there : well_formed_claim (held_claim bs (claim_at t w v)) ≡ true → one_claim_in (drop at bs) ≡ Ok (held_claim bs (claim_at t w v))
           claim_there e = value_read (Ok (held_value bs v)) iv ∙ cond-true _ _ _ e
-
-      pub claim_lies : (v : Value) → ValueLies bs q v → ClaimLies bs at (claim_at t w v)
-      claim_lies v fv =
-          let f : ValueLies bs (after_text w) v = subst (λ n. ValueLies bs n v) iq fv in
-          let a = ft.ends in
-          let b = fw.ends in
-          let e = f.ends in
-          record { type_place = ft; word_place = subst (λ n. Lies bs n w) ip fw; value_place = f.place; inside = f.inside; ends = omega arith }

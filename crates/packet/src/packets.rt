@@ -4,7 +4,8 @@ ghost use Rattle.packet.specs.Exact.{Exact, fault_in, fault_of};
 ghost use Rattle.packet.specs.Judge.{judge, claims_in};
 ghost use Rattle.packet.specs.Records.{records_in};
 
-use super::claims_in::{claim_in, judged, past};
+use super::claims_in::{judged, past};
+use super::fields::Bytes;
 use claims::{Claim, Source};
 use faults::Fault;
 
@@ -54,11 +55,11 @@ impl<'a> Source for Packet<'a> {
     }
 
     fn claim_at(&self, n: usize) -> Option<Claim> {
-        let bytes = self.bytes;
+        let packet = Bytes { bytes: self.bytes };
         let mut at = 3;
         let mut left = n;
-        while at < bytes.len() {
-            let Ok(claim) = claim_in(bytes, at) else {
+        while at < self.bytes.len() {
+            let Ok(claim) = packet.claim_at(at) else {
                 return None;
             };
             if left == 0 {

@@ -7,17 +7,15 @@ ghost use Rattle.writer.specs.Writing.{written};
 use super::fields::write_claim;
 use super::fits::is_writable;
 use super::shown::claim_size;
-use claims::{Source, Texts};
+use claims::{Claims, Source, Texts};
 
 // The bytes that the claims take; none where one of them cannot be carried.
 pub fn body_size<S: Source>(source: &S, texts: &Texts) -> Option<usize>
+    requires few { length (S.Source.list source.now) ≤ 512 }
     ensures { Measured texts.now.rules.now texts.now.packet.now (S.Source.list source.now) result }
 {
     let mut sum = 0;
-    for i in 0..source.count() {
-        let Some(claim) = source.claim_at(i) else {
-            return None;
-        };
+    for claim in Claims::of(source) {
         if !is_writable(claim, texts) {
             return None;
         }
@@ -32,10 +30,7 @@ pub fn write_body<S: Source>(source: &S, texts: &Texts, out: &mut [u8])
     ensures { out.new ≡ written out.old 3 (shown_body texts.now.rules.now texts.now.packet.now (S.Source.list source.now)) }
 {
     let mut at = 3;
-    for i in 0..source.count() {
-        let Some(claim) = source.claim_at(i) else {
-            return;
-        };
+    for claim in Claims::of(source) {
         at = write_claim(out, at, claim, texts);
     }
 }

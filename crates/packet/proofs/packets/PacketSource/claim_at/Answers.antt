@@ -10,8 +10,8 @@ use Rattle.packet.proofs.packets.PacketSource.claim_at.Goals as goal
 pub loop-at-init : goal.loop-at-init
 loop-at-init c = left_starts c.args.self.now.bytes.now c.args.n c.args.self.now.accepted
 
-pub claim_in-requires : goal.claim_in-requires
-claim_in-requires c = (judge_fine c.args.self.now.bytes.now c.args.self.now.accepted).0
+pub invariant_of-packet : goal.invariant_of-packet
+invariant_of-packet c = record { short = (judge_fine c.args.self.now.bytes.now c.args.self.now.accepted).0 }
 
 pub returns-then-left-eq0 : goal.returns-then-left-eq0
 returns-then-left-eq0 c =

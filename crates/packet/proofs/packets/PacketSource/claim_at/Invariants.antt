@@ -4,7 +4,7 @@ use Rattle.packet.proofs.Walks.{Left}
 use Rattle.packet.proofs.packets.PacketSource.claim_at.Given as goal
 
 abbrev pub invariant-loop-at : goal.invariant-loop-at
-invariant-loop-at l = Left l.bytes (claims_in (judge l.bytes)) l.at l.left l.n
+invariant-loop-at l = Left l.self.bytes.now (claims_in (judge l.self.bytes.now)) l.at l.left l.n
 
 abbrev pub decreases-loop-at : goal.decreases-loop-at
-decreases-loop-at l = length l.bytes - l.at
+decreases-loop-at l = length l.self.bytes.now - l.at

@@ -1,9 +1,0 @@
-use Rattle.std.proofs.Common.{◌≡◌, ◌-◌, ◌≤◌, length, drop}
-use Rattle.packet.specs.Judge.{walk, counted}
-use Rattle.packet.proofs.claims_in.check_claims.Given as goal
-
-abbrev pub invariant-loop-at : goal.invariant-loop-at
-invariant-loop-at l = (l.count ≤ 256) × (counted l.count (walk (256 - l.count) l.at (drop l.at l.bytes)) ≡ counted 0 (walk 256 3 (drop 3 l.bytes)))
-
-abbrev pub decreases-loop-at : goal.decreases-loop-at
-decreases-loop-at l = length l.bytes - l.at
