@@ -21,6 +21,19 @@ pub trait Source {
         ensures same { self.exit.now ≡ self.entry.now };
 }
 
+// A source that is only lent: whoever stands on it leaves it with its owner.
+impl<'a, S: Source> Source for &'a S {
+    ghost list = { λ s. S.Source.list s.now };
+
+    fn count(&self) -> usize {
+        (**self).count()
+    }
+
+    fn claim_at(&self, n: usize) -> Option<Claim> {
+        (**self).claim_at(n)
+    }
+}
+
 // The claims of a source, one after the other.
 #[derive(Drop)]
 pub struct Claims<'s, S: Source> {

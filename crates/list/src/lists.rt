@@ -3,10 +3,10 @@ ghost use Rattle.std.specs.Prelude.{◌≤◌, length};
 
 mod calls;
 
-// A buffer with a length beside it, and no ArrayVec: the buffer is lent by whoever calls, who has it back whole.
 #[derive(Drop)]
 pub struct List<'a, T> {
     slots: &'a mut [T],
+    // A length beside its buffer, and no `ArrayVec`: with no heap, whoever calls lends the slots and has them back whole.
     len: usize,
     ghost fits: { len ≤ length slots.now },
 }

@@ -3,13 +3,11 @@
 // Whoever works over any store is proved once, from the trait alone.
 #![tactic(auto)]
 
-mod lent;
 mod overlays;
 mod rounds;
 mod stores;
 mod tables;
 
-pub use lent::Lent;
 pub use overlays::Overlay;
 pub use rounds::append_read_cut;
 pub use stores::Store;

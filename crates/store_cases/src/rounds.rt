@@ -4,7 +4,7 @@ use super::shown::{granted, numbered, refused};
 use claims::{Claim, One, Source};
 use faults::{Cause, Fault};
 use packet::check as checked_packet;
-use store::{Lent, Overlay, Store, Table, append_read_cut};
+use store::{Overlay, Store, Table, append_read_cut};
 
 // One who holds a store by value, as whoever works over any store does.
 #[derive(Drop)]
@@ -56,7 +56,7 @@ fn an_overlay_on_an_overlay_on_a_table(rt: HostRuntime) {
 fn a_store_of_another_crate(rt: HostRuntime) {
     let mut f = Fixed::new(numbered(3));
     assert_eq!(rt; granted(&mut f), 7);
-    assert_eq!(rt; round(Overlay::over(Lent::new(&f))), Ok(Some(numbered(7))));
+    assert_eq!(rt; round(Overlay::over(&f)), Ok(Some(numbered(7))));
     assert_eq!(rt; f.count(), 8);
     assert_eq!(rt; round(f), refused(Cause::StoreFull));
     assert_eq!(rt; round(Fixed::new(numbered(3))), Ok(Some(numbered(7))));

@@ -19,6 +19,7 @@ pub fn refused<T>(cause: Cause) -> Result<T, Fault> {
 // How many of 600 appends are granted.
 pub fn granted<S: Store>(store: &mut S) -> usize {
     (0..600)
-        .filter(|n| store.append(numbered(*n)).is_ok())
+        .map(|n| store.append(numbered(n)))
+        .filter(|r| r.is_ok())
         .count()
 }

@@ -1,4 +1,4 @@
-use Rattle.std.proofs.Common.{arith, rules}
+use Rattle.std.proofs.Common.{arith}
 use Rattle.store.proofs.Laid.{laid_cut, laid_length}
 use Rattle.store.proofs.overlays.OverlayStore.cut.Goals as goal
 
