@@ -4,7 +4,7 @@ use mathlib.Core.Bool.{false≢true}
 use mathlib.Core.List.{nil≢cons, cons≢nil, head-eq_of_cons-eq, tail-eq_of_cons-eq}
 use lib.Bits.{bit_and, bit_or}
 use borrow.Author.Tests.{eqb-false}
-use Rattle.std.proofs.lemmas.Bool.{false_from_ne_true}
+use Rattle.std.proofs.lemmas.Bool.{and_parts, not-true, false_from_ne_true}
 use Rattle.std.proofs.str.Laws.{order}
 use Rattle.std.proofs.lemmas.Nat.{shr-shr}
 use Rattle.std.proofs.lemmas.List.{get_or_append_left, get_or-append_right, get_or-take}
@@ -15,7 +15,7 @@ use Rattle.automaton.specs.declared.Automaton.{Automaton}
 use Rattle.automaton.specs.Places.{bit, Has, size, null, first, last, links, Linked, atoms_of, atoms, follows as afters, Stands}
 use Rattle.automaton.specs.Run.{room, masked, reached, stepped, ends as stops, run}
 use Rattle.automaton.proofs.Sets.{bit-bit_and}
-use Rattle.automaton.proofs.Holds.{has_split, has_left, has_right, has_none, has_one, only_one, and_true, has_if, empty_left, null_of, of_null, Lang, Holds, enter, leave, ends, follows, At, goes}
+use Rattle.automaton.proofs.Holds.{has_split, has_left, has_right, has_none, has_one, only_one, has_if, empty_left, null_of, of_null, Lang, Holds, enter, leave, ends, follows, At, goes}
 
 -- what a number other than 0 holds
 some_bit : (f s : ℕ) → s ≤ f → 0 < s → (p : ℕ) × Has s p
@@ -29,7 +29,7 @@ some_bit (suc f) s le pos =
 some_meet : (a b : ℕ) → (bit_and a b ≡ 0 → ⊥) → (p : ℕ) × Has a p × Has b p
 some_meet a b h =
     let r = some_bit (bit_and a b) (bit_and a b) (omega arith) (omega (arith, h)) in
-    let e = and_true (bit a r.0) (bit b r.0) (sym (bit-bit_and a b r.0) ∙ r.1) in
+    let e = and_parts (bit a r.0) (bit b r.0) (sym (bit-bit_and a b r.0) ∙ r.1) in
     (r.0, e.0, e.1)
 
 both : (a b p : ℕ) → Has a p → Has b p → Has (bit_and a b) p
@@ -189,10 +189,6 @@ true_cond : (a b : Bool) → b ≡ true → cond a true b ≡ true
 true_cond true b h = refl
 true_cond false b h = h
 
-not-true : (b : Bool) → not b ≡ true → b ≡ false
-not-true true h = absurd (false≢true h)
-not-true false h = refl
-
 module _ (m : Automaton) (t : Tree) (st : Stands m m.head m.tail t) where
   abbrev h : Bool
   h = m.head
@@ -232,7 +228,7 @@ module _ (m : Automaton) (t : Tree) (st : Stands m m.head m.tail t) where
   step_of fresh s x q i =
       let g : ℕ = reached (afters m.places) (cond fresh m.firsts 0) s (room m) in
       let f : ℕ = masked (atoms m.places) x (room m) in
-      let c = and_true (bit g q) (bit f q) (sym (bit-bit_and g f q) ∙ i) in
+      let c = and_parts (bit g q) (bit f q) (sym (bit-bit_and g f q) ∙ i) in
       let a = mask_of (atoms m.places) x (room m) q c.1 in (
         elim (reach_of (afters m.places) (cond fresh m.firsts 0) s (room m) q c.0) [
           | inl j ↦ inl (begin_of fresh q j)
@@ -256,7 +252,7 @@ module _ (m : Automaton) (t : Tree) (st : Stands m m.head m.tail t) where
   hit_of : (fresh : Bool) (s : ℕ) → stops m fresh s ≡ true → (w : List ℕ) → k w → Lives fresh s w
   hit_of fresh s i w kw =
       elim (cond-true (fresh && m.nullable) _ i) [
-        | inl j ↦ let c = and_true fresh m.nullable j in inl (c.0, ([], w, refl, of_null t (sym st.nulls ∙ c.1), kw))
+        | inl j ↦ let c = and_parts fresh m.nullable j in inl (c.0, ([], w, refl, of_null t (sym st.nulls ∙ c.1), kw))
         | inr j ↦
             let c = some_meet m.lasts s (eqb-false (bit_and m.lasts s) 0 (not-true _ j)) in
             inr (inl (c.0, c.2, ends S K t 0 k right c.0 w (subst (λ z. Has z c.0) st.ends c.1) kw))
@@ -282,7 +278,7 @@ module _ (m : Automaton) (t : Tree) (st : Stands m m.head m.tail t) where
   sound [] fresh s r = hit_of fresh s r [] (λ _. refl)
   sound (x ∷ w) fresh s r =
       elim (cond-true (not e && stops m fresh s) _ r) [
-        | inl i ↦ let j = and_true (not e) (stops m fresh s) i in hit_of fresh s j.1 (x ∷ w) (λ et. absurd (true≢false (sym et ∙ not-true e j.0)))
+        | inl i ↦ let j = and_parts (not e) (stops m fresh s) i in hit_of fresh s j.1 (x ∷ w) (λ et. absurd (true≢false (sym et ∙ not-true e j.0)))
         | inr i ↦ back x w fresh s (sound w (not h) (stepped m fresh s x) i)
       ]
 

@@ -4,6 +4,7 @@ use mathlib.Core.Bool.{false≢true}
 use mathlib.Core.List.{nil≢cons, cons≢nil, head-eq_of_cons-eq, tail-eq_of_cons-eq}
 use native.Mathlib.Nat.{zero-div, div_self, div-eq_of_lt}
 use lib.Bits.{bit_or}
+use Rattle.std.proofs.lemmas.Bool.{or_cases, and_parts}
 use Rattle.std.proofs.str.Laws.{order}
 use Rattle.std.proofs.lemmas.Nat.{pow_pos, pow-add, shl-shr, pow_below}
 use Rattle.automaton.specs.declared.Atom.{Atom}
@@ -11,16 +12,12 @@ use Rattle.automaton.specs.Language.{fits, Tree, empty, one, either, followed, s
 use Rattle.automaton.specs.Places.{bit, Has, size, null, first, last, Link, links, Linked}
 use Rattle.automaton.proofs.Sets.{bit-bit_or}
 
-pub or_true : (a b : Bool) → (a || b) ≡ true → (a ≡ true) ⊎ (b ≡ true)
-or_true true b h = inl refl
-or_true false b h = inr h
-
 true_or : (a b : Bool) → b ≡ true → (a || b) ≡ true
 true_or true b h = refl
 true_or false b h = h
 
 pub has_split : (a b p : ℕ) → Has (bit_or a b) p → Has a p ⊎ Has b p
-has_split a b p h = or_true (bit a p) (bit b p) (sym (bit-bit_or a b p) ∙ h)
+has_split a b p h = or_cases (bit a p) (bit b p) (sym (bit-bit_or a b p) ∙ h)
 
 pub has_left : (a b p : ℕ) → Has a p → Has (bit_or a b) p
 has_left a b p h = bit-bit_or a b p ∙ ap (λ z. z || bit b p) h
@@ -69,10 +66,6 @@ linked_split (l ∷ a) b p q (inl h) = inl (inl h)
 linked_split (l ∷ a) b p q (inr h) = elim (linked_split a b p q h) [ inl i ↦ inl (inr i) | inr i ↦ inr i ]
 
 -- no unit: the pattern takes the empty run exactly where it is nullable
-pub and_true : (a b : Bool) → (a && b) ≡ true → (a ≡ true) × (b ≡ true)
-and_true true b h = (refl, h)
-and_true false b h = absurd (false≢true h)
-
 pub empty_left : (u v : List ℕ) → [] ≡ u ++ v → u ≡ []
 empty_left [] v e = refl
 empty_left (x ∷ u) v e = absurd (nil≢cons e)
@@ -96,8 +89,8 @@ null_of (opt a) h = refl
 pub of_null : (t : Tree) → null t ≡ true → In t []
 of_null empty h = refl
 of_null (one s) h = absurd (false≢true h)
-of_null (either a b) h = elim (or_true (null a) (null b) h) [ inl i ↦ inl (of_null a i) | inr i ↦ inr (of_null b i) ]
-of_null (followed a b) h = let i = and_true (null a) (null b) h in ([], [], refl, of_null a i.0, of_null b i.1)
+of_null (either a b) h = elim (or_cases (null a) (null b) h) [ inl i ↦ inl (of_null a i) | inr i ↦ inr (of_null b i) ]
+of_null (followed a b) h = let i = and_parts (null a) (null b) h in ([], [], refl, of_null a i.0, of_null b i.1)
 of_null (star a) h = none
 of_null (plus a) h = ([], [], refl, of_null a h, none)
 of_null (opt a) h = inl refl

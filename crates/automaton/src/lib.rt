@@ -57,7 +57,8 @@ impl Atom {
     }
 }
 
-// Is the place p in the set?
+// Is the place p in the set? A set is a plain number, whose operators are those of sets: a type of its own would only
+// repeat them.
 pub fn has(set: u64, p: usize) -> bool
     ensures { result ≡ bit set p }
 {

@@ -1,6 +1,6 @@
 -- The refusal that is computed is the one that a pattern meets.
 use Rattle.std.proofs.Common.{◌≡◌, ℕ, zero, suc, pred, ◌+◌, ◌≤◌, Bool, true, false, cond, ◌&&◌, ltb, List, [], ◌∷◌, ◌++◌, Some, None, Ok, Err, Option, Result, sym, refl, ap, ◌∙◌, subst, inl, inr, append_assoc, arith}
-use Rattle.std.proofs.lemmas.Bool.{and_parts, and_from, ltb-true, lt-ltb, leb-true, le-leb}
+use Rattle.std.proofs.lemmas.Bool.{and_parts, and_from, false_from_ne_true, ltb-true, lt-ltb, leb-true, le-leb}
 use Rattle.faults.specs.declared.Cause.{Cause}
 use Rattle.faults.specs.declared.Cause.TheVariants.{MalformedPattern, PatternOverLimit}
 use Rattle.automaton.specs.Language.{Tree}
@@ -94,10 +94,6 @@ module _ (us : List ℕ) where
       let x = lower b.spelt 8 0 8 (closing w.2) refl (sym (ap (shallow 8 false 0) b.split) ∙ a.0) in
       (begins 94 us, w.2, w.3, (b.text, whole_of us (begins 94 us) refl (b.text ++ closing w.2) b.split, x.0), leb-true (size w.3) 60 (sym (ap few r.1) ∙ a.1))
 
-  not-true : (b : Bool) → (b ≡ true → ⊥) → b ≡ false
-  not-true true h = absurd (h refl)
-  not-true false h = refl
-
   abbrev cause : Bool → Bool → Option Cause
   cause f l = cond f (cond l None (Some PatternOverLimit)) (Some MalformedPattern)
 
@@ -106,10 +102,10 @@ module _ (us : List ℕ) where
 
   refused_cause : (c : Cause) → Refusal us c → Some c ≡ cause_of_pattern us
   refused_cause c (inl h) =
-      let f = not-true (formed Fresh 0 (body us)) (λ t. h.1 (well_formed_passed us (begins 94 us) _ refl refl (sym t))) in
+      let f = false_from_ne_true (formed Fresh 0 (body us)) (λ t. h.1 (well_formed_passed us (begins 94 us) _ refl refl (sym t))) in
       ap Some h.0 ∙ sym (ap (λ b. cause b (shallow 8 false 0 (body us) && few (whole us))) f)
   refused_cause c (inr h) =
-      let l = not-true (shallow 8 false 0 (body us) && few (whole us)) (λ t. h.2 (shallow_within h.1 t)) in
+      let l = false_from_ne_true (shallow 8 false 0 (body us) && few (whole us)) (λ t. h.2 (shallow_within h.1 t)) in
       ap Some h.0 ∙ sym (λ i. cause (formed_of h.1 i) (l i))
 
   pub told_cause : (r : Result Pattern Cause) → Reads us r → cause_of r ≡ cause_of_pattern us

@@ -1,5 +1,5 @@
 -- What stands at a place of a text, and what is left there.
-use Rattle.std.proofs.Common.{◌≡◌, ℕ, zero, suc, ◌+◌, ◌-◌, ◌<◌, ◌≤◌, Bool, true, false, cond, eqb, nat_eq, List, [], ◌∷◌, length, take, drop, Some, None, Option, MatchOption, sym, refl, ap, ◌∙◌, add-one, arith, eq-eqb, ne_eqb}
+use Rattle.std.proofs.Common.{◌≡◌, ℕ, zero, suc, ◌+◌, ◌-◌, ◌*◌, ◌<◌, ◌≤◌, Bool, true, false, cond, eqb, nat_eq, List, [], ◌∷◌, length, take, drop, Some, None, Option, MatchOption, sym, refl, ap, ◌∙◌, add-one, arith, eq-eqb, ne_eqb}
 use Rattle.std.proofs.Math.Seq.{take-length}
 use Rattle.units.specs.Units.{units}
 use Rattle.units.proofs.Texts.{length-units}
@@ -29,9 +29,6 @@ within (x ∷ us) (suc i) u e = let h = within us i u e in omega arith
 
 pub within_bytes : (bs : List ℕ) (i : ℕ) → i < length (units bs) → i + 1 ≤ length bs
 within_bytes bs i h = let l = length-units bs in omega arith
-
-pub below_bytes : (bs : List ℕ) (i : ℕ) → i ≤ length (units bs) → i ≤ length bs
-below_bytes bs i h = let l = length-units bs in omega arith
 
 module _ (us : List ℕ) (i : ℕ) where
   pub no_simple : None ≡ slice_get us i → None ≡ simple (drop i us)
@@ -65,3 +62,7 @@ pub behind_first : (bs : List ℕ) → 2 ≤ length bs → units (take (length b
 behind_first [] le = absurd (omega arith)
 behind_first (h ∷ []) le = absurd (omega arith)
 behind_first (h ∷ l ∷ bs) le = let e : length (h ∷ l ∷ bs) - 2 ≡ length bs = omega arith in ap (λ n. units (take n bs)) e ∙ ap units (take-length bs)
+
+-- a text has half as many units as bytes
+pub half : (bs : List ℕ) → 2 * length (units bs) ≤ length bs
+half bs = (length-units bs).0

@@ -1,5 +1,5 @@
 -- A pattern that is well formed, told in one pass over its units with a count of open brackets.
-use Rattle.std.specs.Prelude.{ℕ, zero, suc, ◌+◌, ◌≤◌, Bool, true, false, cond, ◌||◌, List, [], ◌∷◌, Some, None, Option, ◌==◌}
+use Rattle.std.specs.Prelude.{ℕ, zero, suc, ◌+◌, ◌≤◌, Bool, true, false, if◌then◌else◌, ◌||◌, List, [], ◌∷◌, Some, None, Option, ◌==◌}
 use Rattle.pattern.specs.Signs.{special}
 use Rattle.pattern.specs.declared.scan.State.{State}
 use Rattle.pattern.specs.declared.scan.State.TheVariants.{Fresh, Behind, Escaped, Closed}
@@ -9,13 +9,13 @@ use Rattle.pattern.specs.declared.scan.Class.TheVariants.{Opens, Closes, Parts, 
 
 abbrev pub class_of : ℕ → Class
 class_of u =
-    cond (u == 40) Opens
-    (cond (u == 41) Closes
-    (cond (u == 124) Parts
-    (cond (u == 92) Escapes
-    (cond (u == 42 || u == 43 || u == 63) Repeats
-    (cond (u == 36) Ends
-    (cond (u == 91 || u == 93 || u == 94) Strays Takes))))))
+    if u == 40 then Opens else
+    if u == 41 then Closes else
+    if u == 124 then Parts else
+    if u == 92 then Escapes else
+    if u == 42 || u == 43 || u == 63 then Repeats else
+    if u == 36 then Ends else
+    if u == 91 || u == 93 || u == 94 then Strays else Takes
 
 -- the pass there, with d brackets open
 abbrev pub pass : State → ℕ → Pass
@@ -28,15 +28,15 @@ free behind zero Closes = None
 free behind (suc d) Closes = Some (pass Behind d)
 free behind d Parts = Some (pass Fresh d)
 free behind d Escapes = Some (pass Escaped d)
-free behind d Repeats = cond behind (Some (pass Fresh d)) None
-free behind d Ends = cond (d == 0) (Some (pass Closed 0)) None
+free behind d Repeats = if behind then Some (pass Fresh d) else None
+free behind d Ends = if d == 0 then Some (pass Closed 0) else None
 free behind d Strays = None
 free behind d Takes = Some (pass Behind d)
 
 abbrev pub after : State → ℕ → ℕ → Option Pass
 after Fresh d u = free false d (class_of u)
 after Behind d u = free true d (class_of u)
-after Escaped d u = cond (special u) (Some (pass Behind d)) None
+after Escaped d u = if special u then Some (pass Behind d) else None
 after Closed d u = None
 
 abbrev pub done : State → ℕ → Bool

@@ -110,6 +110,7 @@ impl<'a> Reader<'a> {
     }
 
     #[cycle(atom_choice_item_sequence)]
+    #[tactic(auto, using(crate::proofs::Looks::half))]
     pub fn choice(&mut self, depth: usize) -> Option<Part>
         ensures { Outcome Choice depth self.old self.new result }
     {
@@ -140,6 +141,7 @@ impl<'a> Reader<'a> {
     }
 
     #[cycle(atom_choice_item_sequence)]
+    #[tactic(auto, using(crate::proofs::Looks::half))]
     fn item(&mut self, depth: usize) -> Option<Part>
         ensures { Outcome Item depth self.old self.new result }
     {
@@ -162,6 +164,7 @@ impl<'a> Reader<'a> {
     }
 
     #[cycle(atom_choice_item_sequence)]
+    #[tactic(auto, using(crate::proofs::Looks::half))]
     fn atom(&mut self, depth: usize) -> Option<Part>
         ensures { Outcome Atomic depth self.old self.new result }
     {

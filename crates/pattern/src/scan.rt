@@ -102,6 +102,7 @@ impl Pass {
 }
 
 // Do the units spell a choice, perhaps with the closing anchor, at any depth?
+#[tactic(auto, using(crate::proofs::Looks::half))]
 pub fn well_formed(body: &[u8]) -> bool
     ensures { result ≡ formed Fresh 0 (units body.now) }
 {

@@ -2,26 +2,15 @@ use Rattle.std.proofs.Common.{sym, refl, ◌∙◌, arith, rules}
 use Rattle.units.specs.Units.{units}
 use Rattle.pattern.specs.Grammar.{choice, sequence, item, atom}
 use Rattle.pattern.specs.Parts.{table}
-use Rattle.pattern.proofs.Looks.{within_bytes, below_bytes}
-use Rattle.pattern.proofs.Build.{stood_within}
+use Rattle.pattern.proofs.Looks.{half}
 use Rattle.pattern.proofs.Runs.{seq_begin, seq_step, seq_on, seq_read, seq_refused, choice_begin, choice_none, choice_step, choice_read, choice_refused, refused_is, here, halted, read_on, refused_on, moved}
 use Rattle.pattern.proofs.Sole.{item_refused, item_once, item_star, item_plus, item_opt, group_refused, group_open, group_read, simple_refused, simple_read, simple_inside}
 use Rattle.pattern.proofs.reader.Reader.+atom_choice_item_sequence.Goals as goal
-
-pub atom-overflow_add-self : goal.atom-overflow_add-self
-atom-overflow_add-self t c =
-    let h = within_bytes c.args.self.now.pattern.now c.args.self.now.at (stood_within (units c.args.self.now.pattern.now) c.args.self.now.at 40 (sym c.if-stands.ensures)) in
-    search rules
 
 pub atom-returns-in_err-inner : goal.atom-returns-in_err-inner
 atom-returns-in_err-inner t c =
     refused_is atom c.args.depth c.args.self.now _ _ c.from_residual.ensures
     (group_refused (units c.args.self.now.pattern.now) c.args.self.now.at (sym c.if-stands.ensures) c.args.depth c.args.self.now.count c.if-depth-eq0.false c.in_err-inner.ensures)
-
-pub atom-overflow_add-self-then-stands-2 : goal.atom-overflow_add-self-then-stands-2
-atom-overflow_add-self-then-stands-2 t c =
-    let h = within_bytes c.choice.new.self.pattern.now c.choice.new.self.at (stood_within (units c.choice.new.self.pattern.now) c.choice.new.self.at 41 (sym c.if-stands-2.ensures)) in
-    search rules
 
 pub atom-returns-then-stands-2 : goal.atom-returns-then-stands-2
 atom-returns-then-stands-2 t c = record {
@@ -42,8 +31,8 @@ atom-returns-in_err-a t c =
 
 pub atom-overflow_add-self-2 : goal.atom-overflow_add-self-2
 atom-overflow_add-self-2 t c =
-    let h =
-    below_bytes c.args.self.now.pattern.now _ (simple_inside (units c.args.self.now.pattern.now) c.args.self.now.at c.in_ok-a.a c.in_ok-a.units c.args.self.now.inside c.in_ok-a.ensures) in
+    let h = simple_inside (units c.args.self.now.pattern.now) c.args.self.now.at c.in_ok-a.a c.in_ok-a.units c.args.self.now.inside c.in_ok-a.ensures in
+    let b = half c.args.self.now.pattern.now in
     search rules
 
 pub atom-invariant_of-self-2-clause-inside : goal.atom-invariant_of-self-2-clause-inside
@@ -64,11 +53,6 @@ choice-returns-in_err-a t c =
 
 pub choice-loop-self-init : goal.choice-loop-self-init
 choice-loop-self-init t c = (c.in_ok-a.ensures.same, choice_begin c.in_ok-a.ensures.read)
-
-pub choice-overflow_add-self : goal.choice-overflow_add-self
-choice-overflow_add-self t c =
-    let h = within_bytes c.loop-self.self.pattern.now c.loop-self.self.at (stood_within (units c.loop-self.self.pattern.now) c.loop-self.self.at 124 (sym c.loop-self-test.ensures)) in
-    search rules
 
 pub choice-returns-in_err-b : goal.choice-returns-in_err-b
 choice-returns-in_err-b t c =
@@ -92,21 +76,11 @@ item-returns-in_err-a t c =
     refused_is item c.args.depth c.args.self.now _ _ c.from_residual.ensures
     (item_refused (units c.args.self.now.pattern.now) c.args.depth c.args.self.now.at c.args.self.now.count c.in_err-a.ensures)
 
-pub item-overflow_add-self : goal.item-overflow_add-self
-item-overflow_add-self t c =
-    let h = within_bytes c.atom.new.self.pattern.now c.atom.new.self.at (stood_within (units c.atom.new.self.pattern.now) c.atom.new.self.at 42 (sym c.if-stands.ensures)) in
-    search rules
-
 pub item-returns-then-stands : goal.item-returns-then-stands
 item-returns-then-stands t c = record {
   same = c.in_ok-a.ensures.same;
   read = item_star c.in_ok-a.ensures.read (moved _ _ _ _) (table c.link.new.places) (here c.in_ok-a.ensures.same 42 _ c.if-stands.ensures) c.link.ensures.kept c.link.ensures.leads refl;
 }
-
-pub item-overflow_add-self-then-stands-2 : goal.item-overflow_add-self-then-stands-2
-item-overflow_add-self-then-stands-2 t c =
-    let h = within_bytes c.atom.new.self.pattern.now c.atom.new.self.at (stood_within (units c.atom.new.self.pattern.now) c.atom.new.self.at 43 (sym c.if-stands-2.ensures)) in
-    search rules
 
 pub item-returns-then-stands-2 : goal.item-returns-then-stands-2
 item-returns-then-stands-2 t c = record {
@@ -115,11 +89,6 @@ item-returns-then-stands-2 t c = record {
       item_plus c.in_ok-a.ensures.read (moved _ _ _ _) (table c.link-then-stands-2.new.places) (here c.in_ok-a.ensures.same 43 _ c.if-stands-2.ensures)
       c.link-then-stands-2.ensures.kept c.link-then-stands-2.ensures.leads refl;
 }
-
-pub item-overflow_add-self-then-stands-3 : goal.item-overflow_add-self-then-stands-3
-item-overflow_add-self-then-stands-3 t c =
-    let h = within_bytes c.atom.new.self.pattern.now c.atom.new.self.at (stood_within (units c.atom.new.self.pattern.now) c.atom.new.self.at 63 (sym c.if-stands-3.ensures)) in
-    search rules
 
 pub item-returns-then-stands-3 : goal.item-returns-then-stands-3
 item-returns-then-stands-3 t c = record {
