@@ -8,22 +8,17 @@ use super::tree::{Expr, ExprRead};
 use cursor::{Cursor, Piece, Stop};
 use words::Terminal;
 
-fn property<'a>(cursor: &mut Cursor<'a>, i: Piece) -> Result<ExprRead, Stop>
+fn property(cursor: &mut Cursor<'_>, i: Piece) -> Result<ExprRead, Stop>
     ensures { Parses (G.property (word_of (text_of cursor.old) i)) expr_of cursor.old result cursor.new }
 {
-    if cursor.sees(&[Terminal::KeyType]) {
-        cursor.expect(Terminal::KeyType)?;
-        Ok(Expr::TypeOf(i))
-    } else if cursor.sees(&[Terminal::KeyValue]) {
-        cursor.expect(Terminal::KeyValue)?;
-        Ok(Expr::ValueOf(i))
-    } else {
-        cursor.expect(Terminal::KeyValueType)?;
-        Ok(Expr::ValueTypeOf(i))
-    }
+    cursor.expect_as(&[
+        (Terminal::KeyType, Expr::TypeOf(i)),
+        (Terminal::KeyValue, Expr::ValueOf(i)),
+        (Terminal::KeyValueType, Expr::ValueTypeOf(i)),
+    ])
 }
 
-fn reference<'a>(cursor: &mut Cursor<'a>) -> Result<ExprRead, Stop>
+fn reference(cursor: &mut Cursor<'_>) -> Result<ExprRead, Stop>
     ensures { Parses G.reference expr_of cursor.old result cursor.new }
 {
     let i = cursor.expect(Terminal::Identifier)?;
@@ -31,21 +26,19 @@ fn reference<'a>(cursor: &mut Cursor<'a>) -> Result<ExprRead, Stop>
     property(cursor, i)
 }
 
-pub fn expression<'a>(cursor: &mut Cursor<'a>) -> Result<ExprRead, Stop>
+pub fn expression(cursor: &mut Cursor<'_>) -> Result<ExprRead, Stop>
     ensures { Parses G.Expression expr_of cursor.old result cursor.new }
 {
     if cursor.sees(&[Terminal::Identifier]) {
         reference(cursor)
     } else if cursor.sees(&[Terminal::Literal]) {
-        let w = cursor.expect(Terminal::Literal)?;
-        Ok(Expr::Literal(w))
+        cursor.expect(Terminal::Literal).map(Expr::Literal)
     } else {
-        let w = cursor.value_type_literal()?;
-        Ok(Expr::ValueType(w))
+        cursor.value_type_literal().map(Expr::ValueType)
     }
 }
 
-pub fn value_type_expr<'a>(cursor: &mut Cursor<'a>) -> Result<ExprRead, Stop>
+pub fn value_type_expr(cursor: &mut Cursor<'_>) -> Result<ExprRead, Stop>
     ensures { Parses G.ValueTypeExpr expr_of cursor.old result cursor.new }
 {
     if cursor.sees(&[Terminal::Identifier]) {
@@ -54,7 +47,6 @@ pub fn value_type_expr<'a>(cursor: &mut Cursor<'a>) -> Result<ExprRead, Stop>
         cursor.expect(Terminal::KeyValueType)?;
         Ok(Expr::ValueTypeOf(i))
     } else {
-        let w = cursor.value_type_literal()?;
-        Ok(Expr::ValueType(w))
+        cursor.value_type_literal().map(Expr::ValueType)
     }
 }

@@ -1,6 +1,7 @@
 // The action of a rule, one function for each production.
 ghost use Rattle.grammar.specs.Parse as G;
 ghost use Rattle.cursor.specs.Reading.{Parses};
+ghost use Rattle.actions.specs.Assigned.{assigned};
 ghost use Rattle.actions.specs.Shown.{expr_of, two_of, action_of};
 
 use super::exprs::{expression, value_type_expr};
@@ -8,23 +9,28 @@ use super::tree::{Action, ActionRead, ExprRead};
 use cursor::{Cursor, Stop};
 use words::Terminal;
 
-fn claim_type_assign<'a>(cursor: &mut Cursor<'a>) -> Result<ExprRead, Stop>
+// A key, and the expression that is assigned to it.
+fn assigned(cursor: &mut Cursor<'_>, key: Terminal) -> Result<ExprRead, Stop>
+    ensures { Parses (assigned key) expr_of cursor.old result cursor.new }
+{
+    cursor.expect(key)?;
+    cursor.expect(Terminal::Assign)?;
+    expression(cursor)
+}
+
+fn claim_type_assign(cursor: &mut Cursor<'_>) -> Result<ExprRead, Stop>
     ensures { Parses G.ClaimTypeAssign expr_of cursor.old result cursor.new }
 {
-    cursor.expect(Terminal::KeyType)?;
-    cursor.expect(Terminal::Assign)?;
-    expression(cursor)
+    assigned(cursor, Terminal::KeyType)
 }
 
-fn claim_val_assign<'a>(cursor: &mut Cursor<'a>) -> Result<ExprRead, Stop>
+fn claim_val_assign(cursor: &mut Cursor<'_>) -> Result<ExprRead, Stop>
     ensures { Parses G.ClaimValAssign expr_of cursor.old result cursor.new }
 {
-    cursor.expect(Terminal::KeyValue)?;
-    cursor.expect(Terminal::Assign)?;
-    expression(cursor)
+    assigned(cursor, Terminal::KeyValue)
 }
 
-fn claim_val_type_assign<'a>(cursor: &mut Cursor<'a>) -> Result<ExprRead, Stop>
+fn claim_val_type_assign(cursor: &mut Cursor<'_>) -> Result<ExprRead, Stop>
     ensures { Parses G.ClaimValTypeAssign expr_of cursor.old result cursor.new }
 {
     cursor.expect(Terminal::KeyValueType)?;
@@ -32,7 +38,7 @@ fn claim_val_type_assign<'a>(cursor: &mut Cursor<'a>) -> Result<ExprRead, Stop>
     value_type_expr(cursor)
 }
 
-fn value_first<'a>(cursor: &mut Cursor<'a>) -> Result<(ExprRead, ExprRead), Stop>
+fn value_first(cursor: &mut Cursor<'_>) -> Result<(ExprRead, ExprRead), Stop>
     ensures { Parses G.assigns_value_first two_of cursor.old result cursor.new }
 {
     let v = claim_val_assign(cursor)?;
@@ -41,7 +47,7 @@ fn value_first<'a>(cursor: &mut Cursor<'a>) -> Result<(ExprRead, ExprRead), Stop
     Ok((v, y))
 }
 
-fn value_type_first<'a>(cursor: &mut Cursor<'a>) -> Result<(ExprRead, ExprRead), Stop>
+fn value_type_first(cursor: &mut Cursor<'_>) -> Result<(ExprRead, ExprRead), Stop>
     ensures { Parses G.assigns_value_type_first two_of cursor.old result cursor.new }
 {
     let y = claim_val_type_assign(cursor)?;
@@ -50,7 +56,7 @@ fn value_type_first<'a>(cursor: &mut Cursor<'a>) -> Result<(ExprRead, ExprRead),
     Ok((v, y))
 }
 
-fn claim_value_assign<'a>(cursor: &mut Cursor<'a>) -> Result<(ExprRead, ExprRead), Stop>
+fn claim_value_assign(cursor: &mut Cursor<'_>) -> Result<(ExprRead, ExprRead), Stop>
     ensures { Parses G.ClaimValueAssign two_of cursor.old result cursor.new }
 {
     if cursor.sees(&[Terminal::KeyValue]) {
@@ -60,7 +66,7 @@ fn claim_value_assign<'a>(cursor: &mut Cursor<'a>) -> Result<(ExprRead, ExprRead
     }
 }
 
-fn type_first<'a>(cursor: &mut Cursor<'a>) -> Result<ActionRead, Stop>
+fn type_first(cursor: &mut Cursor<'_>) -> Result<ActionRead, Stop>
     ensures { Parses G.assigns_type_first action_of cursor.old result cursor.new }
 {
     let n = claim_type_assign(cursor)?;
@@ -69,7 +75,7 @@ fn type_first<'a>(cursor: &mut Cursor<'a>) -> Result<ActionRead, Stop>
     Ok(Action::New(n, v, y))
 }
 
-fn type_last<'a>(cursor: &mut Cursor<'a>) -> Result<ActionRead, Stop>
+fn type_last(cursor: &mut Cursor<'_>) -> Result<ActionRead, Stop>
     ensures { Parses G.assigns_type_last action_of cursor.old result cursor.new }
 {
     let (v, y) = claim_value_assign(cursor)?;
@@ -78,7 +84,7 @@ fn type_last<'a>(cursor: &mut Cursor<'a>) -> Result<ActionRead, Stop>
     Ok(Action::New(n, v, y))
 }
 
-fn claim_new<'a>(cursor: &mut Cursor<'a>) -> Result<ActionRead, Stop>
+fn claim_new(cursor: &mut Cursor<'_>) -> Result<ActionRead, Stop>
     ensures { Parses G.ClaimNew action_of cursor.old result cursor.new }
 {
     if cursor.sees(&[Terminal::KeyType]) {
@@ -88,16 +94,15 @@ fn claim_new<'a>(cursor: &mut Cursor<'a>) -> Result<ActionRead, Stop>
     }
 }
 
-fn claim_copy<'a>(cursor: &mut Cursor<'a>) -> Result<ActionRead, Stop>
+fn claim_copy(cursor: &mut Cursor<'_>) -> Result<ActionRead, Stop>
     ensures { Parses G.ClaimCopy action_of cursor.old result cursor.new }
 {
     cursor.expect(Terminal::KeyClaim)?;
     cursor.expect(Terminal::Assign)?;
-    let i = cursor.expect(Terminal::Identifier)?;
-    Ok(Action::Copy(i))
+    cursor.expect(Terminal::Identifier).map(Action::Copy)
 }
 
-fn issue_params<'a>(cursor: &mut Cursor<'a>) -> Result<ActionRead, Stop>
+fn issue_params(cursor: &mut Cursor<'_>) -> Result<ActionRead, Stop>
     ensures { Parses G.IssueParams action_of cursor.old result cursor.new }
 {
     if cursor.sees(&[Terminal::KeyClaim]) {
@@ -107,7 +112,7 @@ fn issue_params<'a>(cursor: &mut Cursor<'a>) -> Result<ActionRead, Stop>
     }
 }
 
-pub fn rule_action<'a>(cursor: &mut Cursor<'a>) -> Result<ActionRead, Stop>
+pub fn rule_action(cursor: &mut Cursor<'_>) -> Result<ActionRead, Stop>
     ensures { Parses G.RuleAction action_of cursor.old result cursor.new }
 {
     cursor.expect(Terminal::KeyIssue)?;

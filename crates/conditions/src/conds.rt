@@ -10,7 +10,7 @@ use super::tree::{Cond, Conds, Oper};
 use cursor::{Cursor, Piece, Stop};
 use words::Terminal;
 
-fn literal_expr<'a>(cursor: &mut Cursor<'a>) -> Result<Piece, Stop>
+fn literal_expr(cursor: &mut Cursor<'_>) -> Result<Piece, Stop>
     ensures { Parses G.LiteralExpr word_of cursor.old result cursor.new }
 {
     if cursor.sees(&[Terminal::Literal]) {
@@ -20,25 +20,18 @@ fn literal_expr<'a>(cursor: &mut Cursor<'a>) -> Result<Piece, Stop>
     }
 }
 
-fn cond_oper<'a>(cursor: &mut Cursor<'a>) -> Result<Oper, Stop>
+fn cond_oper(cursor: &mut Cursor<'_>) -> Result<Oper, Stop>
     ensures { Parses G.CondOper oper_of cursor.old result cursor.new }
 {
-    if cursor.sees(&[Terminal::Equal]) {
-        cursor.expect(Terminal::Equal)?;
-        Ok(Oper::Equal)
-    } else if cursor.sees(&[Terminal::NotEqual]) {
-        cursor.expect(Terminal::NotEqual)?;
-        Ok(Oper::NotEqual)
-    } else if cursor.sees(&[Terminal::Matches]) {
-        cursor.expect(Terminal::Matches)?;
-        Ok(Oper::Matches)
-    } else {
-        cursor.expect(Terminal::NotMatches)?;
-        Ok(Oper::NotMatches)
-    }
+    cursor.expect_as(&[
+        (Terminal::Equal, Oper::Equal),
+        (Terminal::NotEqual, Oper::NotEqual),
+        (Terminal::Matches, Oper::Matches),
+        (Terminal::NotMatches, Oper::NotMatches),
+    ])
 }
 
-fn type_cond<'a>(cursor: &mut Cursor<'a>) -> Result<Cond<Piece>, Stop>
+fn type_cond(cursor: &mut Cursor<'_>) -> Result<Cond<Piece>, Stop>
     ensures { Parses G.TypeCond cond_of cursor.old result cursor.new }
 {
     cursor.expect(Terminal::KeyType)?;
@@ -47,7 +40,8 @@ fn type_cond<'a>(cursor: &mut Cursor<'a>) -> Result<Cond<Piece>, Stop>
     Ok(Cond::Type(o, l))
 }
 
-fn val_cond<'a>(cursor: &mut Cursor<'a>) -> Result<(Oper, Piece), Stop>
+// This and the next are a production each, and differ in the reader of the right side.
+fn val_cond(cursor: &mut Cursor<'_>) -> Result<(Oper, Piece), Stop>
     ensures { Parses G.ValCond half_of cursor.old result cursor.new }
 {
     cursor.expect(Terminal::KeyValue)?;
@@ -56,7 +50,7 @@ fn val_cond<'a>(cursor: &mut Cursor<'a>) -> Result<(Oper, Piece), Stop>
     Ok((o, l))
 }
 
-fn val_type_cond<'a>(cursor: &mut Cursor<'a>) -> Result<(Oper, Piece), Stop>
+fn val_type_cond(cursor: &mut Cursor<'_>) -> Result<(Oper, Piece), Stop>
     ensures { Parses G.ValTypeCond half_of cursor.old result cursor.new }
 {
     cursor.expect(Terminal::KeyValueType)?;
@@ -65,7 +59,7 @@ fn val_type_cond<'a>(cursor: &mut Cursor<'a>) -> Result<(Oper, Piece), Stop>
     Ok((o, l))
 }
 
-fn value_first<'a>(cursor: &mut Cursor<'a>) -> Result<Cond<Piece>, Stop>
+fn value_first(cursor: &mut Cursor<'_>) -> Result<Cond<Piece>, Stop>
     ensures { Parses G.read_value_first cond_of cursor.old result cursor.new }
 {
     let (o, l) = val_cond(cursor)?;
@@ -74,7 +68,7 @@ fn value_first<'a>(cursor: &mut Cursor<'a>) -> Result<Cond<Piece>, Stop>
     Ok(Cond::Value(o, l, p, m))
 }
 
-fn value_type_first<'a>(cursor: &mut Cursor<'a>) -> Result<Cond<Piece>, Stop>
+fn value_type_first(cursor: &mut Cursor<'_>) -> Result<Cond<Piece>, Stop>
     ensures { Parses G.read_value_type_first cond_of cursor.old result cursor.new }
 {
     let (p, m) = val_type_cond(cursor)?;
@@ -83,7 +77,7 @@ fn value_type_first<'a>(cursor: &mut Cursor<'a>) -> Result<Cond<Piece>, Stop>
     Ok(Cond::Value(o, l, p, m))
 }
 
-fn value_cond<'a>(cursor: &mut Cursor<'a>) -> Result<Cond<Piece>, Stop>
+fn value_cond(cursor: &mut Cursor<'_>) -> Result<Cond<Piece>, Stop>
     ensures { Parses G.ValueCond cond_of cursor.old result cursor.new }
 {
     if cursor.sees(&[Terminal::KeyValue]) {
@@ -93,7 +87,7 @@ fn value_cond<'a>(cursor: &mut Cursor<'a>) -> Result<Cond<Piece>, Stop>
     }
 }
 
-fn cond<'a>(cursor: &mut Cursor<'a>) -> Result<Cond<Piece>, Stop>
+fn cond(cursor: &mut Cursor<'_>) -> Result<Cond<Piece>, Stop>
     ensures { Parses G.ACond cond_of cursor.old result cursor.new }
 {
     if cursor.sees(&[Terminal::KeyValue, Terminal::KeyValueType]) {
@@ -103,7 +97,7 @@ fn cond<'a>(cursor: &mut Cursor<'a>) -> Result<Cond<Piece>, Stop>
     }
 }
 
-fn sees_cond<'a>(cursor: &Cursor<'a>) -> bool
+fn sees_cond(cursor: &Cursor<'_>) -> bool
     ensures { result ≡ next G.conds_begin (rest cursor.now) }
 {
     cursor.sees(&[
@@ -113,7 +107,7 @@ fn sees_cond<'a>(cursor: &Cursor<'a>) -> bool
     ])
 }
 
-fn cond_list<'a>(cursor: &mut Cursor<'a>) -> Result<Conds, Stop>
+fn cond_list(cursor: &mut Cursor<'_>) -> Result<Conds, Stop>
     ensures { Parses G.CondList conds_of cursor.old result cursor.new }
 {
     let mut all = Conds::new();
@@ -131,7 +125,7 @@ fn cond_list<'a>(cursor: &mut Cursor<'a>) -> Result<Conds, Stop>
     }
 }
 
-pub fn opt_cond_list<'a>(cursor: &mut Cursor<'a>) -> Result<Conds, Stop>
+pub fn opt_cond_list(cursor: &mut Cursor<'_>) -> Result<Conds, Stop>
     ensures { Parses G.OptCondList conds_of cursor.old result cursor.new }
 {
     if sees_cond(cursor) {

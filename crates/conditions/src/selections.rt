@@ -8,7 +8,7 @@ use super::tree::{Conds, Selection, Selections};
 use cursor::{Cursor, Stop};
 use words::Terminal;
 
-fn sel_condition_body<'a>(cursor: &mut Cursor<'a>) -> Result<Conds, Stop>
+fn sel_condition_body(cursor: &mut Cursor<'_>) -> Result<Conds, Stop>
     ensures { Parses G.SelConditionBody conds_of cursor.old result cursor.new }
 {
     cursor.expect(Terminal::OpenSquare)?;
@@ -17,14 +17,14 @@ fn sel_condition_body<'a>(cursor: &mut Cursor<'a>) -> Result<Conds, Stop>
     Ok(conds)
 }
 
-fn unnamed<'a>(cursor: &mut Cursor<'a>) -> Result<Selection, Stop>
+fn unnamed(cursor: &mut Cursor<'_>) -> Result<Selection, Stop>
     ensures { Parses G.unnamed selection_of cursor.old result cursor.new }
 {
     let conds = sel_condition_body(cursor)?;
     Ok(Selection { name: None, conds })
 }
 
-fn named<'a>(cursor: &mut Cursor<'a>) -> Result<Selection, Stop>
+fn named(cursor: &mut Cursor<'_>) -> Result<Selection, Stop>
     ensures { Parses G.named selection_of cursor.old result cursor.new }
 {
     let i = cursor.expect(Terminal::Identifier)?;
@@ -36,7 +36,7 @@ fn named<'a>(cursor: &mut Cursor<'a>) -> Result<Selection, Stop>
     })
 }
 
-fn sel_condition<'a>(cursor: &mut Cursor<'a>) -> Result<Selection, Stop>
+fn sel_condition(cursor: &mut Cursor<'_>) -> Result<Selection, Stop>
     ensures { Parses G.SelCondition selection_of cursor.old result cursor.new }
 {
     if cursor.sees(&[Terminal::OpenSquare]) {
@@ -46,7 +46,7 @@ fn sel_condition<'a>(cursor: &mut Cursor<'a>) -> Result<Selection, Stop>
     }
 }
 
-fn sel_condition_list<'a>(cursor: &mut Cursor<'a>) -> Result<Selections, Stop>
+fn sel_condition_list(cursor: &mut Cursor<'_>) -> Result<Selections, Stop>
     ensures { Parses G.SelConditionList selections_of cursor.old result cursor.new }
 {
     let mut all = Selections::new();
@@ -64,7 +64,7 @@ fn sel_condition_list<'a>(cursor: &mut Cursor<'a>) -> Result<Selections, Stop>
     }
 }
 
-pub fn conditions<'a>(cursor: &mut Cursor<'a>) -> Result<Selections, Stop>
+pub fn conditions(cursor: &mut Cursor<'_>) -> Result<Selections, Stop>
     ensures { Parses G.Conditions selections_of cursor.old result cursor.new }
 {
     if cursor.sees(&[Terminal::OpenSquare, Terminal::Identifier]) {

@@ -1,5 +1,6 @@
 -- One word, by what stands ahead.
 use Rattle.std.proofs.Common.{◌≡◌, ℕ, Bool, true, false, cond, ◌||◌, List, [], ◌∷◌, sym, refl, ap, ◌∙◌, subst}
+use Rattle.std.proofs.Math.Bool.{or-false}
 use Rattle.std.specs.List.{list_any}
 use Rattle.words.specs.Places.{from}
 use Rattle.words.specs.Terminals.{Kind, terminal, unreadable, is}
@@ -45,10 +46,6 @@ among_no_word : (ks : List Terminal) (s : Slip) → among ks (unreadable s) ≡ 
 among_no_word [] s = refl
 among_no_word (k ∷ ks) s = among_no_word ks s
 
-or_false : (b : Bool) → b ≡ (b || false)
-or_false true = refl
-or_false false = refl
-
 any_by : (k j : Terminal) (ks : List Terminal) (w : Word) (ws : List Word) (b : Bool) → is k w.kind ≡ b → any_of (j ∷ ks) (w ∷ ws) ≡ look w ws (among (j ∷ ks) w.kind)
     → cond {A = Reads Word} (b || false) (t k) (any_of (j ∷ ks)) (w ∷ ws) ≡ look w ws (b || among (j ∷ ks) w.kind)
 unfolding t
@@ -58,7 +55,7 @@ any_by k j ks w ws false e h = h
 any_is : (ks : List Terminal) (w : Word) (ws : List Word) → any_of ks (w ∷ ws) ≡ look w ws (among ks w.kind)
 unfolding t
 any_is [] w ws = refl
-any_is (k ∷ []) w ws = ap (look w ws) (or_false (is k w.kind))
+any_is (k ∷ []) w ws = ap (look w ws) (sym (or-false (is k w.kind)))
 any_is (k ∷ j ∷ ks) w ws = any_by k j ks w ws (is k w.kind) refl (any_is (j ∷ ks) w ws)
 
 any_none : (ks : List Terminal) → any_of ks [] ≡ useless []

@@ -1,5 +1,5 @@
 -- What a cursor has still before it, and what a result of it says of that.
-use Rattle.std.specs.Prelude.{◌≡◌, ℕ, Bool, true, false, cond, List, [], ◌∷◌, Some, None, Option, Ok, Err, Result}
+use Rattle.std.specs.Prelude.{◌≡◌, ℕ, Bool, true, false, if◌then◌else◌, List, [], ◌∷◌, Some, None, Option, Ok, Err, Result}
 use Rattle.units.specs.Units.{units}
 use Rattle.faults.specs.At.{fault_at}
 use Rattle.faults.specs.declared.Cause.TheVariants.{OverLimit}
@@ -49,7 +49,7 @@ any_of (k ∷ j ∷ ks) = (k ∷ []) starts t k else any_of (j ∷ ks)
 -- what stands in a table beside the terminal that a word is
 abbrev pub beside : {A : Type 0} → List (Terminal × A) → Kind → Option A
 beside [] m = None
-beside (e ∷ es) m = cond (is e.0 m) (Some e.1) (beside es m)
+beside (e ∷ es) m = if is e.0 m then Some e.1 else beside es m
 
 -- one word of a table's terminals, for what stands beside the terminal
 abbrev pub choice : {A : Type 0} → List (Terminal × A) → Reads A

@@ -1,5 +1,5 @@
 -- What reading a production gives, and how readers are put together.
-use Rattle.std.specs.Prelude.{ℕ, zero, suc, Bool, true, false, cond, ◌||◌, List, [], ◌∷◌}
+use Rattle.std.specs.Prelude.{ℕ, zero, suc, Bool, true, false, if◌then◌else◌, ◌||◌, List, [], ◌∷◌}
 use Rattle.words.specs.Words.{Word}
 use Rattle.words.specs.Terminals.{is}
 use Rattle.words.specs.declared.terminals.Terminal.{Terminal}
@@ -38,7 +38,7 @@ p >> q = p >>= (λ _. q)
 infixr 20 ◌starts◌else◌
 -- the one where the next word is among these, else the other
 abbrev pub ◌starts◌else◌ : {A : Type 0} → List Terminal → Reads A → Reads A → Reads A
-◌starts◌else◌ ks p q ws = cond (next ks ws) p q ws
+◌starts◌else◌ ks p q ws = (if next ks ws then p else q) ws
 
 abbrev pub stop : {A : Type 0} → Reads A
 stop ws = useless ws

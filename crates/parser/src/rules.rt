@@ -11,7 +11,7 @@ use conditions::{Selections, conditions};
 use cursor::{Cursor, Stop};
 use words::Terminal;
 
-fn rule_body<'a>(cursor: &mut Cursor<'a>) -> Result<(Selections, ActionRead), Stop>
+fn rule_body(cursor: &mut Cursor<'_>) -> Result<(Selections, ActionRead), Stop>
     ensures { Parses G.RuleBody body_of cursor.old result cursor.new }
 {
     let selections = conditions(cursor)?;
@@ -21,7 +21,7 @@ fn rule_body<'a>(cursor: &mut Cursor<'a>) -> Result<(Selections, ActionRead), St
     Ok((selections, action))
 }
 
-pub fn rule<'a>(cursor: &mut Cursor<'a>) -> Result<Rule, Stop>
+pub fn rule(cursor: &mut Cursor<'_>) -> Result<Rule, Stop>
     ensures { Parses G.ARule rule_of cursor.old result cursor.new }
 {
     let at = cursor.place();
@@ -33,14 +33,14 @@ pub fn rule<'a>(cursor: &mut Cursor<'a>) -> Result<Rule, Stop>
     })
 }
 
-pub fn begins_rule<'a>(cursor: &Cursor<'a>) -> bool
+pub fn begins_rule(cursor: &Cursor<'_>) -> bool
     ensures { result ≡ next G.rules_begin (rest cursor.now) }
 {
     cursor.sees(&[Terminal::OpenSquare, Terminal::Identifier, Terminal::Imply])
 }
 
 // The rules up to the first word that begins none.
-pub fn rules<'a>(cursor: &mut Cursor<'a>) -> Result<Rules, Stop>
+pub fn rules(cursor: &mut Cursor<'_>) -> Result<Rules, Stop>
     ensures { Parses G.RuleSet rules_of cursor.old result cursor.new }
 {
     let mut all = Rules::new();

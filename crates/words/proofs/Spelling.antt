@@ -3,6 +3,7 @@ use Rattle.std.proofs.Common.{◌≡◌, ℕ, ◌+◌, ◌-◌, ◌<◌, ◌≤�
 use Rattle.std.proofs.lemmas.List.{drop_more, drop-drop, get_or-drop, get_or_past, length-drop, length-take-le}
 use Rattle.std.proofs.lemmas.List.Sums.{prefix_len-le-length, prefix_len-drop_yes}
 use Rattle.std.proofs.lemmas.Bool.{cases_lt, cond-true, cond-false, le-leb, lt-leb, eq-eqb, ne_eqb, or_left, and_parts, eqb-true, eqb-false}
+use Rattle.std.proofs.Math.Bool.{and-true}
 use Rattle.std.specs.List.{prefix_len, AllByRecursion}
 use Rattle.words.specs.Signs.{fits, sign_in, sign_of, sign_word}
 use Rattle.words.specs.Terminals.{Kind, terminal, unreadable, symbols, keywords, value_types}
@@ -23,15 +24,11 @@ Entry (p ∷ []) = Unit {0}
 Entry (p ∷ q ∷ []) = eqb q 0 ≡ false
 Entry (p ∷ q ∷ r ∷ ps) = ⊥
 
-and_true : (b : Bool) → (b && true) ≡ b
-and_true true = refl
-and_true false = refl
-
 begins_fits : (ps : List ℕ) (u : ℕ) (us : List ℕ) → Entry ps → begins ps (u ∷ us) ≡ fits ps u (get_or us 0 0)
 begins_fits [] u us h = absurd h
-begins_fits (p ∷ []) u us h = and_true (eqb p u)
+begins_fits (p ∷ []) u us h = and-true (eqb p u)
 begins_fits (p ∷ q ∷ []) u [] h = ap (λ b. eqb p u && b) (sym h)
-begins_fits (p ∷ q ∷ []) u (v ∷ us) h = ap (λ b. eqb p u && b) (and_true (eqb q v))
+begins_fits (p ∷ q ∷ []) u (v ∷ us) h = ap (λ b. eqb p u && b) (and-true (eqb q v))
 begins_fits (p ∷ q ∷ r ∷ ps) u us h = absurd h
 
 chosen : (b c : Bool) (t : Terminal) (n : ℕ) (x : Spelled) (o : Option Sign) (us : List ℕ) → b ≡ c → x ≡ sign_word o us → cond b (word (terminal t) n []) x ≡ sign_word (cond c (Some (record { terminal = t; long = n })) o) us
@@ -172,7 +169,7 @@ module _ (us : List ℕ) (i : ℕ) (h : i < length us) where
       where
         open_at : (vs : List ℕ) → get_or vs 0 0 ≡ get_or us to 0 → begins (34 ∷ []) vs ≡ false
         open_at [] e = refl
-        open_at (v ∷ vs) e = and_true (eqb 34 v) ∙ ne_eqb 34 v (λ same. no' (iz ∙ sym e ∙ sym same))
+        open_at (v ∷ vs) e = and-true (eqb 34 v) ∙ ne_eqb 34 v (λ same. no' (iz ∙ sym e ∙ sym same))
 
     close_end : get_or us to 0 ≡ 34 → (to < length us) × (begins (34 ∷ []) (drop to us) ≡ true)
     close_end e = close_at (drop to us) refl
@@ -187,7 +184,7 @@ module _ (us : List ℕ) (i : ℕ) (h : i < length us) where
             let k : get_or (drop to us) 0 0 ≡ v = ap (λ vs. get_or vs 0 0) is in
             let l = length-drop to us in
             let n = ap length is in
-            (omega arith, ap (begins (34 ∷ [])) is ∙ and_true (eqb 34 v) ∙ eq-eqb 34 v (sym g ∙ k))
+            (omega arith, ap (begins (34 ∷ [])) is ∙ and-true (eqb 34 v) ∙ eq-eqb 34 v (sym g ∙ k))
 
     pub string_open : (z n : ℕ) → z ≡ get_or us to 0 → (z ≡ 34 → ⊥) → n ≡ length us → word (unreadable NotClosed) (n - i) [] ≡ spelled u rest
     string_open z n iz no' e = slipped NotClosed n e ∙ sym (as_string ∙ cond-false _ _ _ (open_end z iz no'))

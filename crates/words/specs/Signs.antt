@@ -1,5 +1,5 @@
 -- The terminal that two units begin, told by their characters.
-use Rattle.std.specs.Prelude.{ℕ, Bool, false, cond, ◌&&◌, List, [], ◌∷◌, length, Some, None, Option, ◌==◌}
+use Rattle.std.specs.Prelude.{ℕ, Bool, false, if◌then◌else◌, ◌&&◌, List, [], ◌∷◌, length, Some, None, Option, ◌==◌}
 use Rattle.words.specs.Terminals.{terminal, symbols}
 use Rattle.words.specs.Words.{Spelled, no_word}
 use Rattle.words.specs.declared.signs.Sign.{Sign}
@@ -14,7 +14,7 @@ fits (p ∷ q ∷ ps) u v = p == u && q == v
 
 abbrev pub sign_in : List (List ℕ × Terminal) → ℕ → ℕ → Option Sign
 sign_in [] u v = None
-sign_in (s ∷ ss) u v = cond (fits s.0 u v) (Some (record { terminal = s.1; long = length s.0 })) (sign_in ss u v)
+sign_in (s ∷ ss) u v = if fits s.0 u v then Some (record { terminal = s.1; long = length s.0 }) else sign_in ss u v
 
 abbrev pub sign_of : ℕ → ℕ → Option Sign
 sign_of u v = sign_in symbols u v

@@ -1,5 +1,5 @@
 -- The words of a rule text, a list of units.
-use Rattle.std.specs.Prelude.{ℕ, zero, suc, pred, ◌+◌, Bool, true, false, cond, ◌&&◌, ◌||◌, List, [], ◌∷◌, length, take, drop, Some, None, Option, ◌==◌, nat_le}
+use Rattle.std.specs.Prelude.{ℕ, zero, suc, pred, ◌+◌, Bool, true, false, not, if◌then◌else◌, ◌&&◌, ◌||◌, List, [], ◌∷◌, length, take, drop, Some, None, Option, ◌==◌, nat_le}
 use Rattle.std.specs.Option.{unwrap_or}
 use Rattle.std.specs.List.{prefix_len}
 use Rattle.units.specs.Fold.{same_units}
@@ -31,7 +31,7 @@ in_name u = letter u || within 48 57 u
 
 -- a string goes on up to a quote, and not past 000A
 abbrev pub in_string : ℕ → Bool
-in_string u = cond (u == 34 || u == 10) false true
+in_string u = not (u == 34 || u == 10)
 
 abbrev pub begins : List ℕ → List ℕ → Bool
 begins [] us = true
@@ -41,7 +41,7 @@ begins (p ∷ ps) (u ∷ us) = p == u && begins ps us
 -- the terminal of a table that the units spell, in any case
 abbrev pub spelled_by : List (List ℕ × Terminal) → List ℕ → Option Terminal
 spelled_by [] us = None
-spelled_by (n ∷ ns) us = cond (same_units us n.0) (Some n.1) (spelled_by ns us)
+spelled_by (n ∷ ns) us = if same_units us n.0 then Some n.1 else spelled_by ns us
 
 -- the word at the front of units: what it is, how many units it takes, and its text
 pub record Spelled : Type 0 where
@@ -55,7 +55,7 @@ no_word s us = record { kind = unreadable s; long = length us; text = [] }
 
 abbrev pub symbol : List (List ℕ × Terminal) → List ℕ → Spelled
 symbol [] us = no_word BeginsNone us
-symbol (s ∷ ss) us = cond (begins s.0 us) (record { kind = terminal s.1; long = length s.0; text = [] }) (symbol ss us)
+symbol (s ∷ ss) us = if begins s.0 us then record { kind = terminal s.1; long = length s.0; text = [] } else symbol ss us
 
 -- a name is a keyword, or an identifier with its text
 abbrev pub name_word : List ℕ → Option Terminal → Spelled
@@ -64,7 +64,7 @@ name_word run (Some t) = record { kind = terminal t; long = length run; text = [
 
 -- the longest run of name units, at most 31
 abbrev pub name : List ℕ → List ℕ → Spelled
-name us run = cond (nat_le (length run) 31) (name_word run (spelled_by keywords run)) (no_word TooLong us)
+name us run = if nat_le (length run) 31 then name_word run (spelled_by keywords run) else no_word TooLong us
 
 -- what is quoted is a value type or a literal, and has its text
 abbrev pub quoted_word : List ℕ → Option Terminal → Spelled
@@ -73,21 +73,23 @@ quoted_word run o = record { kind = terminal (unwrap_or o Literal); long = lengt
 -- a string of at most 255 units between its quotes, closed on its line
 abbrev pub string : List ℕ → List ℕ → List ℕ → Spelled
 string us run rest =
-    cond (begins (34 ∷ []) rest) (cond (nat_le (length run) 255) (quoted_word run (spelled_by value_types run)) (no_word TooLong us)) (no_word NotClosed us)
+    if begins (34 ∷ []) rest then (if nat_le (length run) 255 then quoted_word run (spelled_by value_types run) else no_word TooLong us)
+    else no_word NotClosed us
 
 abbrev pub front : (ℕ → Bool) → List ℕ → List ℕ
 front p us = take (prefix_len p us) us
 
 abbrev pub spelled : ℕ → List ℕ → Spelled
 spelled u us =
-    cond (letter u) (name (u ∷ us) (front in_name (u ∷ us)))
-    (cond (u == 34) (string (u ∷ us) (front in_string us) (drop (prefix_len in_string us) us)) (symbol symbols (u ∷ us)))
+    if letter u then name (u ∷ us) (front in_name (u ∷ us))
+    else (if u == 34 then string (u ∷ us) (front in_string us) (drop (prefix_len in_string us) us) else symbol symbols (u ∷ us))
 
 -- the words from a place on, where the first units may belong to a word that is read already
 abbrev pub words_from : List ℕ → ℕ → ℕ → List Word
 words_from [] more place = []
 words_from (u ∷ us) zero place =
-    cond (blank u) (words_from us 0 (suc place)) (record { kind = (spelled u us).kind; at = place; text = (spelled u us).text } ∷ words_from us (pred (spelled u us).long) (suc place))
+    if blank u then words_from us 0 (suc place)
+    else (record { kind = (spelled u us).kind; at = place; text = (spelled u us).text } ∷ words_from us (pred (spelled u us).long) (suc place))
 words_from (u ∷ us) (suc more) place = words_from us more (suc place)
 
 abbrev pub words : List ℕ → List Word
