@@ -1,7 +1,7 @@
 // The action of a rule, one function for each production.
-ghost use Rattle.std.specs.Prelude.{◌≡◌};
 ghost use Rattle.grammar.specs.Parse as G;
-ghost use Rattle.cursor.specs.Reading.{shown, rest, Reading, text_of};
+ghost use Rattle.cursor.specs.Reading.{Parses};
+ghost use Rattle.actions.specs.Assigned.{assigned};
 ghost use Rattle.actions.specs.Shown.{expr_of, two_of, action_of};
 
 use super::exprs::{expression, value_type_expr};
@@ -9,36 +9,37 @@ use super::tree::{Action, ActionRead, ExprRead};
 use cursor::{Cursor, Stop};
 use words::Terminal;
 
-fn claim_type_assign<'a>(cursor: &mut Cursor<'a>) -> Result<ExprRead, Stop>
-    ensures reads { Reading G.ClaimTypeAssign (rest cursor.old) (shown (expr_of (text_of cursor.old)) result (rest cursor.new)) }
-    ensures text { text_of cursor.new ≡ text_of cursor.old }
+// A key, and the expression that is assigned to it.
+fn assigned(cursor: &mut Cursor<'_>, key: Terminal) -> Result<ExprRead, Stop>
+    ensures { Parses (assigned key) expr_of cursor.old result cursor.new }
 {
-    cursor.expect(Terminal::KeyType)?;
+    cursor.expect(key)?;
     cursor.expect(Terminal::Assign)?;
     expression(cursor)
 }
 
-fn claim_val_assign<'a>(cursor: &mut Cursor<'a>) -> Result<ExprRead, Stop>
-    ensures reads { Reading G.ClaimValAssign (rest cursor.old) (shown (expr_of (text_of cursor.old)) result (rest cursor.new)) }
-    ensures text { text_of cursor.new ≡ text_of cursor.old }
+fn claim_type_assign(cursor: &mut Cursor<'_>) -> Result<ExprRead, Stop>
+    ensures { Parses G.ClaimTypeAssign expr_of cursor.old result cursor.new }
 {
-    cursor.expect(Terminal::KeyValue)?;
-    cursor.expect(Terminal::Assign)?;
-    expression(cursor)
+    assigned(cursor, Terminal::KeyType)
 }
 
-fn claim_val_type_assign<'a>(cursor: &mut Cursor<'a>) -> Result<ExprRead, Stop>
-    ensures reads { Reading G.ClaimValTypeAssign (rest cursor.old) (shown (expr_of (text_of cursor.old)) result (rest cursor.new)) }
-    ensures text { text_of cursor.new ≡ text_of cursor.old }
+fn claim_val_assign(cursor: &mut Cursor<'_>) -> Result<ExprRead, Stop>
+    ensures { Parses G.ClaimValAssign expr_of cursor.old result cursor.new }
+{
+    assigned(cursor, Terminal::KeyValue)
+}
+
+fn claim_val_type_assign(cursor: &mut Cursor<'_>) -> Result<ExprRead, Stop>
+    ensures { Parses G.ClaimValTypeAssign expr_of cursor.old result cursor.new }
 {
     cursor.expect(Terminal::KeyValueType)?;
     cursor.expect(Terminal::Assign)?;
     value_type_expr(cursor)
 }
 
-fn value_first<'a>(cursor: &mut Cursor<'a>) -> Result<(ExprRead, ExprRead), Stop>
-    ensures reads { Reading G.assigns_value_first (rest cursor.old) (shown (two_of (text_of cursor.old)) result (rest cursor.new)) }
-    ensures text { text_of cursor.new ≡ text_of cursor.old }
+fn value_first(cursor: &mut Cursor<'_>) -> Result<(ExprRead, ExprRead), Stop>
+    ensures { Parses G.assigns_value_first two_of cursor.old result cursor.new }
 {
     let v = claim_val_assign(cursor)?;
     cursor.expect(Terminal::Comma)?;
@@ -46,9 +47,8 @@ fn value_first<'a>(cursor: &mut Cursor<'a>) -> Result<(ExprRead, ExprRead), Stop
     Ok((v, y))
 }
 
-fn value_type_first<'a>(cursor: &mut Cursor<'a>) -> Result<(ExprRead, ExprRead), Stop>
-    ensures reads { Reading G.assigns_value_type_first (rest cursor.old) (shown (two_of (text_of cursor.old)) result (rest cursor.new)) }
-    ensures text { text_of cursor.new ≡ text_of cursor.old }
+fn value_type_first(cursor: &mut Cursor<'_>) -> Result<(ExprRead, ExprRead), Stop>
+    ensures { Parses G.assigns_value_type_first two_of cursor.old result cursor.new }
 {
     let y = claim_val_type_assign(cursor)?;
     cursor.expect(Terminal::Comma)?;
@@ -56,20 +56,18 @@ fn value_type_first<'a>(cursor: &mut Cursor<'a>) -> Result<(ExprRead, ExprRead),
     Ok((v, y))
 }
 
-fn claim_value_assign<'a>(cursor: &mut Cursor<'a>) -> Result<(ExprRead, ExprRead), Stop>
-    ensures reads { Reading G.ClaimValueAssign (rest cursor.old) (shown (two_of (text_of cursor.old)) result (rest cursor.new)) }
-    ensures text { text_of cursor.new ≡ text_of cursor.old }
+fn claim_value_assign(cursor: &mut Cursor<'_>) -> Result<(ExprRead, ExprRead), Stop>
+    ensures { Parses G.ClaimValueAssign two_of cursor.old result cursor.new }
 {
-    if cursor.sees(Terminal::KeyValue) {
+    if cursor.sees(&[Terminal::KeyValue]) {
         value_first(cursor)
     } else {
         value_type_first(cursor)
     }
 }
 
-fn type_first<'a>(cursor: &mut Cursor<'a>) -> Result<ActionRead, Stop>
-    ensures reads { Reading G.assigns_type_first (rest cursor.old) (shown (action_of (text_of cursor.old)) result (rest cursor.new)) }
-    ensures text { text_of cursor.new ≡ text_of cursor.old }
+fn type_first(cursor: &mut Cursor<'_>) -> Result<ActionRead, Stop>
+    ensures { Parses G.assigns_type_first action_of cursor.old result cursor.new }
 {
     let n = claim_type_assign(cursor)?;
     cursor.expect(Terminal::Comma)?;
@@ -77,9 +75,8 @@ fn type_first<'a>(cursor: &mut Cursor<'a>) -> Result<ActionRead, Stop>
     Ok(Action::New(n, v, y))
 }
 
-fn type_last<'a>(cursor: &mut Cursor<'a>) -> Result<ActionRead, Stop>
-    ensures reads { Reading G.assigns_type_last (rest cursor.old) (shown (action_of (text_of cursor.old)) result (rest cursor.new)) }
-    ensures text { text_of cursor.new ≡ text_of cursor.old }
+fn type_last(cursor: &mut Cursor<'_>) -> Result<ActionRead, Stop>
+    ensures { Parses G.assigns_type_last action_of cursor.old result cursor.new }
 {
     let (v, y) = claim_value_assign(cursor)?;
     cursor.expect(Terminal::Comma)?;
@@ -87,41 +84,36 @@ fn type_last<'a>(cursor: &mut Cursor<'a>) -> Result<ActionRead, Stop>
     Ok(Action::New(n, v, y))
 }
 
-fn claim_new<'a>(cursor: &mut Cursor<'a>) -> Result<ActionRead, Stop>
-    ensures reads { Reading G.ClaimNew (rest cursor.old) (shown (action_of (text_of cursor.old)) result (rest cursor.new)) }
-    ensures text { text_of cursor.new ≡ text_of cursor.old }
+fn claim_new(cursor: &mut Cursor<'_>) -> Result<ActionRead, Stop>
+    ensures { Parses G.ClaimNew action_of cursor.old result cursor.new }
 {
-    if cursor.sees(Terminal::KeyType) {
+    if cursor.sees(&[Terminal::KeyType]) {
         type_first(cursor)
     } else {
         type_last(cursor)
     }
 }
 
-fn claim_copy<'a>(cursor: &mut Cursor<'a>) -> Result<ActionRead, Stop>
-    ensures reads { Reading G.ClaimCopy (rest cursor.old) (shown (action_of (text_of cursor.old)) result (rest cursor.new)) }
-    ensures text { text_of cursor.new ≡ text_of cursor.old }
+fn claim_copy(cursor: &mut Cursor<'_>) -> Result<ActionRead, Stop>
+    ensures { Parses G.ClaimCopy action_of cursor.old result cursor.new }
 {
     cursor.expect(Terminal::KeyClaim)?;
     cursor.expect(Terminal::Assign)?;
-    let i = cursor.expect(Terminal::Identifier)?;
-    Ok(Action::Copy(i))
+    cursor.expect(Terminal::Identifier).map(Action::Copy)
 }
 
-fn issue_params<'a>(cursor: &mut Cursor<'a>) -> Result<ActionRead, Stop>
-    ensures reads { Reading G.IssueParams (rest cursor.old) (shown (action_of (text_of cursor.old)) result (rest cursor.new)) }
-    ensures text { text_of cursor.new ≡ text_of cursor.old }
+fn issue_params(cursor: &mut Cursor<'_>) -> Result<ActionRead, Stop>
+    ensures { Parses G.IssueParams action_of cursor.old result cursor.new }
 {
-    if cursor.sees(Terminal::KeyClaim) {
+    if cursor.sees(&[Terminal::KeyClaim]) {
         claim_copy(cursor)
     } else {
         claim_new(cursor)
     }
 }
 
-pub fn rule_action<'a>(cursor: &mut Cursor<'a>) -> Result<ActionRead, Stop>
-    ensures reads { Reading G.RuleAction (rest cursor.old) (shown (action_of (text_of cursor.old)) result (rest cursor.new)) }
-    ensures text { text_of cursor.new ≡ text_of cursor.old }
+pub fn rule_action(cursor: &mut Cursor<'_>) -> Result<ActionRead, Stop>
+    ensures { Parses G.RuleAction action_of cursor.old result cursor.new }
 {
     cursor.expect(Terminal::KeyIssue)?;
     cursor.expect(Terminal::OpenRound)?;

@@ -3,46 +3,36 @@ ghost use Rattle.std.specs.Prelude.{◌≡◌};
 ghost use Rattle.grammar.specs.Parse as G;
 ghost use Rattle.grammar.specs.Readers.{next};
 ghost use Rattle.cursor.specs.Pieces.{word_of};
-ghost use Rattle.cursor.specs.Reading.{shown, rest, Reading, text_of};
+ghost use Rattle.cursor.specs.Reading.{Parses, rest};
 ghost use Rattle.conditions.specs.Shown.{oper_of, cond_of, conds_of, half_of};
 
 use super::tree::{Cond, Conds, Oper};
 use cursor::{Cursor, Piece, Stop};
 use words::Terminal;
 
-fn literal_expr<'a>(cursor: &mut Cursor<'a>) -> Result<Piece, Stop>
-    ensures reads { Reading G.LiteralExpr (rest cursor.old) (shown (word_of (text_of cursor.old)) result (rest cursor.new)) }
-    ensures text { text_of cursor.new ≡ text_of cursor.old }
+fn literal_expr(cursor: &mut Cursor<'_>) -> Result<Piece, Stop>
+    ensures { Parses G.LiteralExpr word_of cursor.old result cursor.new }
 {
-    if cursor.sees(Terminal::Literal) {
+    if cursor.sees(&[Terminal::Literal]) {
         cursor.expect(Terminal::Literal)
     } else {
         cursor.value_type_literal()
     }
 }
 
-fn cond_oper<'a>(cursor: &mut Cursor<'a>) -> Result<Oper, Stop>
-    ensures reads { Reading G.CondOper (rest cursor.old) (shown (oper_of (text_of cursor.old)) result (rest cursor.new)) }
-    ensures text { text_of cursor.new ≡ text_of cursor.old }
+fn cond_oper(cursor: &mut Cursor<'_>) -> Result<Oper, Stop>
+    ensures { Parses G.CondOper oper_of cursor.old result cursor.new }
 {
-    if cursor.sees(Terminal::Equal) {
-        cursor.expect(Terminal::Equal)?;
-        Ok(Oper::Equal)
-    } else if cursor.sees(Terminal::NotEqual) {
-        cursor.expect(Terminal::NotEqual)?;
-        Ok(Oper::NotEqual)
-    } else if cursor.sees(Terminal::Matches) {
-        cursor.expect(Terminal::Matches)?;
-        Ok(Oper::Matches)
-    } else {
-        cursor.expect(Terminal::NotMatches)?;
-        Ok(Oper::NotMatches)
-    }
+    cursor.expect_as(&[
+        (Terminal::Equal, Oper::Equal),
+        (Terminal::NotEqual, Oper::NotEqual),
+        (Terminal::Matches, Oper::Matches),
+        (Terminal::NotMatches, Oper::NotMatches),
+    ])
 }
 
-fn type_cond<'a>(cursor: &mut Cursor<'a>) -> Result<Cond<Piece>, Stop>
-    ensures reads { Reading G.TypeCond (rest cursor.old) (shown (cond_of (text_of cursor.old)) result (rest cursor.new)) }
-    ensures text { text_of cursor.new ≡ text_of cursor.old }
+fn type_cond(cursor: &mut Cursor<'_>) -> Result<Cond<Piece>, Stop>
+    ensures { Parses G.TypeCond cond_of cursor.old result cursor.new }
 {
     cursor.expect(Terminal::KeyType)?;
     let o = cond_oper(cursor)?;
@@ -50,9 +40,9 @@ fn type_cond<'a>(cursor: &mut Cursor<'a>) -> Result<Cond<Piece>, Stop>
     Ok(Cond::Type(o, l))
 }
 
-fn val_cond<'a>(cursor: &mut Cursor<'a>) -> Result<(Oper, Piece), Stop>
-    ensures reads { Reading G.ValCond (rest cursor.old) (shown (half_of (text_of cursor.old)) result (rest cursor.new)) }
-    ensures text { text_of cursor.new ≡ text_of cursor.old }
+// This and the next are a production each, and differ in the reader of the right side.
+fn val_cond(cursor: &mut Cursor<'_>) -> Result<(Oper, Piece), Stop>
+    ensures { Parses G.ValCond half_of cursor.old result cursor.new }
 {
     cursor.expect(Terminal::KeyValue)?;
     let o = cond_oper(cursor)?;
@@ -60,9 +50,8 @@ fn val_cond<'a>(cursor: &mut Cursor<'a>) -> Result<(Oper, Piece), Stop>
     Ok((o, l))
 }
 
-fn val_type_cond<'a>(cursor: &mut Cursor<'a>) -> Result<(Oper, Piece), Stop>
-    ensures reads { Reading G.ValTypeCond (rest cursor.old) (shown (half_of (text_of cursor.old)) result (rest cursor.new)) }
-    ensures text { text_of cursor.new ≡ text_of cursor.old }
+fn val_type_cond(cursor: &mut Cursor<'_>) -> Result<(Oper, Piece), Stop>
+    ensures { Parses G.ValTypeCond half_of cursor.old result cursor.new }
 {
     cursor.expect(Terminal::KeyValueType)?;
     let o = cond_oper(cursor)?;
@@ -70,9 +59,8 @@ fn val_type_cond<'a>(cursor: &mut Cursor<'a>) -> Result<(Oper, Piece), Stop>
     Ok((o, l))
 }
 
-fn value_first<'a>(cursor: &mut Cursor<'a>) -> Result<Cond<Piece>, Stop>
-    ensures reads { Reading G.read_value_first (rest cursor.old) (shown (cond_of (text_of cursor.old)) result (rest cursor.new)) }
-    ensures text { text_of cursor.new ≡ text_of cursor.old }
+fn value_first(cursor: &mut Cursor<'_>) -> Result<Cond<Piece>, Stop>
+    ensures { Parses G.read_value_first cond_of cursor.old result cursor.new }
 {
     let (o, l) = val_cond(cursor)?;
     cursor.expect(Terminal::Comma)?;
@@ -80,9 +68,8 @@ fn value_first<'a>(cursor: &mut Cursor<'a>) -> Result<Cond<Piece>, Stop>
     Ok(Cond::Value(o, l, p, m))
 }
 
-fn value_type_first<'a>(cursor: &mut Cursor<'a>) -> Result<Cond<Piece>, Stop>
-    ensures reads { Reading G.read_value_type_first (rest cursor.old) (shown (cond_of (text_of cursor.old)) result (rest cursor.new)) }
-    ensures text { text_of cursor.new ≡ text_of cursor.old }
+fn value_type_first(cursor: &mut Cursor<'_>) -> Result<Cond<Piece>, Stop>
+    ensures { Parses G.read_value_type_first cond_of cursor.old result cursor.new }
 {
     let (p, m) = val_type_cond(cursor)?;
     cursor.expect(Terminal::Comma)?;
@@ -90,42 +77,43 @@ fn value_type_first<'a>(cursor: &mut Cursor<'a>) -> Result<Cond<Piece>, Stop>
     Ok(Cond::Value(o, l, p, m))
 }
 
-fn value_cond<'a>(cursor: &mut Cursor<'a>) -> Result<Cond<Piece>, Stop>
-    ensures reads { Reading G.ValueCond (rest cursor.old) (shown (cond_of (text_of cursor.old)) result (rest cursor.new)) }
-    ensures text { text_of cursor.new ≡ text_of cursor.old }
+fn value_cond(cursor: &mut Cursor<'_>) -> Result<Cond<Piece>, Stop>
+    ensures { Parses G.ValueCond cond_of cursor.old result cursor.new }
 {
-    if cursor.sees(Terminal::KeyValue) {
+    if cursor.sees(&[Terminal::KeyValue]) {
         value_first(cursor)
     } else {
         value_type_first(cursor)
     }
 }
 
-fn cond<'a>(cursor: &mut Cursor<'a>) -> Result<Cond<Piece>, Stop>
-    ensures reads { Reading G.ACond (rest cursor.old) (shown (cond_of (text_of cursor.old)) result (rest cursor.new)) }
-    ensures text { text_of cursor.new ≡ text_of cursor.old }
+fn cond(cursor: &mut Cursor<'_>) -> Result<Cond<Piece>, Stop>
+    ensures { Parses G.ACond cond_of cursor.old result cursor.new }
 {
-    if cursor.sees_either(Terminal::KeyValue, Terminal::KeyValueType) {
+    if cursor.sees(&[Terminal::KeyValue, Terminal::KeyValueType]) {
         value_cond(cursor)
     } else {
         type_cond(cursor)
     }
 }
 
-fn sees_cond<'a>(cursor: &Cursor<'a>) -> bool
+fn sees_cond(cursor: &Cursor<'_>) -> bool
     ensures { result ≡ next G.conds_begin (rest cursor.now) }
 {
-    cursor.sees_either(Terminal::KeyValue, Terminal::KeyValueType) || cursor.sees(Terminal::KeyType)
+    cursor.sees(&[
+        Terminal::KeyValue,
+        Terminal::KeyValueType,
+        Terminal::KeyType,
+    ])
 }
 
-fn cond_list<'a>(cursor: &mut Cursor<'a>) -> Result<Conds, Stop>
-    ensures reads { Reading G.CondList (rest cursor.old) (shown (conds_of (text_of cursor.old)) result (rest cursor.new)) }
-    ensures text { text_of cursor.new ≡ text_of cursor.old }
+fn cond_list(cursor: &mut Cursor<'_>) -> Result<Conds, Stop>
+    ensures { Parses G.CondList conds_of cursor.old result cursor.new }
 {
     let mut all = Conds::new();
     for _ in 0..4usize {
         all.push(cond(cursor)?);
-        if !cursor.sees(Terminal::Comma) {
+        if !cursor.sees(&[Terminal::Comma]) {
             return Ok(all);
         }
         cursor.expect(Terminal::Comma)?;
@@ -137,9 +125,8 @@ fn cond_list<'a>(cursor: &mut Cursor<'a>) -> Result<Conds, Stop>
     }
 }
 
-pub fn opt_cond_list<'a>(cursor: &mut Cursor<'a>) -> Result<Conds, Stop>
-    ensures reads { Reading G.OptCondList (rest cursor.old) (shown (conds_of (text_of cursor.old)) result (rest cursor.new)) }
-    ensures text { text_of cursor.new ≡ text_of cursor.old }
+pub fn opt_cond_list(cursor: &mut Cursor<'_>) -> Result<Conds, Stop>
+    ensures { Parses G.OptCondList conds_of cursor.old result cursor.new }
 {
     if sees_cond(cursor) {
         cond_list(cursor)

@@ -1,7 +1,6 @@
 // The selections of a rule, one function for each production.
-ghost use Rattle.std.specs.Prelude.{◌≡◌};
 ghost use Rattle.grammar.specs.Parse as G;
-ghost use Rattle.cursor.specs.Reading.{shown, rest, Reading, text_of};
+ghost use Rattle.cursor.specs.Reading.{Parses};
 ghost use Rattle.conditions.specs.Shown.{conds_of, selection_of, selections_of};
 
 use super::conds::opt_cond_list;
@@ -9,9 +8,8 @@ use super::tree::{Conds, Selection, Selections};
 use cursor::{Cursor, Stop};
 use words::Terminal;
 
-fn sel_condition_body<'a>(cursor: &mut Cursor<'a>) -> Result<Conds, Stop>
-    ensures reads { Reading G.SelConditionBody (rest cursor.old) (shown (conds_of (text_of cursor.old)) result (rest cursor.new)) }
-    ensures text { text_of cursor.new ≡ text_of cursor.old }
+fn sel_condition_body(cursor: &mut Cursor<'_>) -> Result<Conds, Stop>
+    ensures { Parses G.SelConditionBody conds_of cursor.old result cursor.new }
 {
     cursor.expect(Terminal::OpenSquare)?;
     let conds = opt_cond_list(cursor)?;
@@ -19,17 +17,15 @@ fn sel_condition_body<'a>(cursor: &mut Cursor<'a>) -> Result<Conds, Stop>
     Ok(conds)
 }
 
-fn unnamed<'a>(cursor: &mut Cursor<'a>) -> Result<Selection, Stop>
-    ensures reads { Reading G.unnamed (rest cursor.old) (shown (selection_of (text_of cursor.old)) result (rest cursor.new)) }
-    ensures text { text_of cursor.new ≡ text_of cursor.old }
+fn unnamed(cursor: &mut Cursor<'_>) -> Result<Selection, Stop>
+    ensures { Parses G.unnamed selection_of cursor.old result cursor.new }
 {
     let conds = sel_condition_body(cursor)?;
     Ok(Selection { name: None, conds })
 }
 
-fn named<'a>(cursor: &mut Cursor<'a>) -> Result<Selection, Stop>
-    ensures reads { Reading G.named (rest cursor.old) (shown (selection_of (text_of cursor.old)) result (rest cursor.new)) }
-    ensures text { text_of cursor.new ≡ text_of cursor.old }
+fn named(cursor: &mut Cursor<'_>) -> Result<Selection, Stop>
+    ensures { Parses G.named selection_of cursor.old result cursor.new }
 {
     let i = cursor.expect(Terminal::Identifier)?;
     cursor.expect(Terminal::Colon)?;
@@ -40,41 +36,38 @@ fn named<'a>(cursor: &mut Cursor<'a>) -> Result<Selection, Stop>
     })
 }
 
-fn sel_condition<'a>(cursor: &mut Cursor<'a>) -> Result<Selection, Stop>
-    ensures reads { Reading G.SelCondition (rest cursor.old) (shown (selection_of (text_of cursor.old)) result (rest cursor.new)) }
-    ensures text { text_of cursor.new ≡ text_of cursor.old }
+fn sel_condition(cursor: &mut Cursor<'_>) -> Result<Selection, Stop>
+    ensures { Parses G.SelCondition selection_of cursor.old result cursor.new }
 {
-    if cursor.sees(Terminal::OpenSquare) {
+    if cursor.sees(&[Terminal::OpenSquare]) {
         unnamed(cursor)
     } else {
         named(cursor)
     }
 }
 
-fn sel_condition_list<'a>(cursor: &mut Cursor<'a>) -> Result<Selections, Stop>
-    ensures reads { Reading G.SelConditionList (rest cursor.old) (shown (selections_of (text_of cursor.old)) result (rest cursor.new)) }
-    ensures text { text_of cursor.new ≡ text_of cursor.old }
+fn sel_condition_list(cursor: &mut Cursor<'_>) -> Result<Selections, Stop>
+    ensures { Parses G.SelConditionList selections_of cursor.old result cursor.new }
 {
     let mut all = Selections::new();
     for _ in 0..4usize {
         all.push(sel_condition(cursor)?);
-        if !cursor.sees(Terminal::And) {
+        if !cursor.sees(&[Terminal::And]) {
             return Ok(all);
         }
         cursor.expect(Terminal::And)?;
     }
-    if cursor.sees_either(Terminal::OpenSquare, Terminal::Identifier) {
+    if cursor.sees(&[Terminal::OpenSquare, Terminal::Identifier]) {
         Err(Stop::Past)
     } else {
         Err(Stop::Useless)
     }
 }
 
-pub fn conditions<'a>(cursor: &mut Cursor<'a>) -> Result<Selections, Stop>
-    ensures reads { Reading G.Conditions (rest cursor.old) (shown (selections_of (text_of cursor.old)) result (rest cursor.new)) }
-    ensures text { text_of cursor.new ≡ text_of cursor.old }
+pub fn conditions(cursor: &mut Cursor<'_>) -> Result<Selections, Stop>
+    ensures { Parses G.Conditions selections_of cursor.old result cursor.new }
 {
-    if cursor.sees_either(Terminal::OpenSquare, Terminal::Identifier) {
+    if cursor.sees(&[Terminal::OpenSquare, Terminal::Identifier]) {
         sel_condition_list(cursor)
     } else {
         Ok(Selections::new())

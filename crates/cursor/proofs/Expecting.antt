@@ -1,7 +1,8 @@
 -- One word, by what stands ahead.
-use Rattle.std.proofs.Common.{◌≡◌, ℕ, Bool, true, false, eqb, List, ◌∷◌, sym, refl, ap, ◌∙◌, subst}
+use Rattle.std.proofs.Common.{◌≡◌, ℕ, Bool, true, false, cond, ◌||◌, List, [], ◌∷◌, sym, refl, ap, ◌∙◌, subst}
+use Rattle.std.specs.List.{list_any}
 use Rattle.words.specs.Places.{from}
-use Rattle.words.specs.Terminals.{mark}
+use Rattle.words.specs.Terminals.{Kind, terminal, unreadable, is}
 use Rattle.words.specs.Tokens as W
 use Rattle.words.specs.Tokens.{Lies}
 use Rattle.words.specs.Words.{Word}
@@ -10,33 +11,92 @@ use Rattle.words.specs.declared.terminals.Terminal.{Terminal}
 use Rattle.words.specs.declared.tokens.Lexeme.{Lexeme}
 use Rattle.words.specs.declared.tokens.Token.{Token}
 use Rattle.words.specs.declared.tokens.Token.TheVariants as token
-use Rattle.grammar.specs.Readers.{Got, got, useless, t}
+use Rattle.grammar.specs.Readers.{Got, got, useless, Reads, next, t}
 use Rattle.cursor.specs.Ahead.{ahead_words, ahead_of}
-use Rattle.cursor.specs.Reading.{Reading}
+use Rattle.cursor.specs.Reading.{Reading, any_of, is_none}
 use Rattle.cursor.specs.Pieces.{word_of}
 use Rattle.cursor.specs.declared.ahead.Ahead.{Ahead}
 use Rattle.cursor.specs.declared.ahead.Ahead.TheVariants as ahead
 use Rattle.cursor.specs.declared.pieces.Piece.{Piece}
 
-abbrev look : Word → List Word → Bool → Got Word
+abbrev pub look : Word → List Word → Bool → Got Word
 look w ws b = elim b as (λ _. Got Word) [ true ↦ got w ws | false ↦ useless (w ∷ ws) ]
 
-module _ (k : Terminal) (us : List ℕ) (a : Ahead) where
-  pub took : (p : Piece) (end : ℕ) (r : Ahead) → a ≡ ahead.Word p end → true ≡ eqb (mark k) (mark p.terminal) → ahead_words us r ≡ from us end → Reading (t k) (ahead_words us a) (got (word_of us p) (ahead_words us r))
-  unfolding t
-  took p end r i h e = record { so = ap (got (word_of us p)) e ∙ ap (look (word_of us p) (from us end)) h ∙ ap (λ z. t k (ahead_words us z)) (sym i) }
+abbrev pub slip_at : Slip → ℕ → Word
+slip_at s at = record { kind = unreadable s; at = at; text = [] }
 
-  pub left : (p : Piece) (end : ℕ) → a ≡ ahead.Word p end → false ≡ eqb (mark k) (mark p.terminal) → Reading (t k) (ahead_words us a) (useless (ahead_words us a))
-  unfolding t
-  left p end i h = record { so = ap (λ z. useless (ahead_words us z)) i ∙ ap (look (word_of us p) (from us end)) h ∙ ap (λ z. t k (ahead_words us z)) (sym i) }
+abbrev among : List Terminal → Kind → Bool
+among ks m = list_any (λ k. is k m) ks
 
-  pub slipped : (s : Slip) (at end : ℕ) → a ≡ ahead.Slip s at end → Reading (t k) (ahead_words us a) (useless (ahead_words us a))
-  unfolding t
-  slipped s at end i = record { so = ap (λ z. useless (ahead_words us z)) i ∙ ap (λ z. t k (ahead_words us z)) (sym i) }
+pub same_any : {X : Type 0} (p q : X → Bool) → ((x : X) → p x ≡ q x) → (xs : List X) → list_any p xs ≡ list_any q xs
+same_any p q h [] = refl
+same_any p q h (x ∷ xs) = ap (λ b. b || list_any p xs) (h x) ∙ ap (λ b. q x || b) (same_any p q h xs)
 
-  pub ended : a ≡ ahead.End → Reading (t k) (ahead_words us a) (useless (ahead_words us a))
-  unfolding t
-  ended i = record { so = ap (λ z. useless (ahead_words us z)) i ∙ ap (λ z. t k (ahead_words us z)) (sym i) }
+-- whether one of these stands ahead
+pub next_is : (ks : List Terminal) (w : Word) (ws : List Word) → next ks (w ∷ ws) ≡ among ks w.kind
+next_is [] w ws = refl
+next_is (k ∷ ks) w ws = ap (λ b. is k w.kind || b) (next_is ks w ws)
+
+pub next_none : (ks : List Terminal) → next ks [] ≡ false
+next_none [] = refl
+next_none (k ∷ ks) = refl
+
+among_no_word : (ks : List Terminal) (s : Slip) → among ks (unreadable s) ≡ false
+among_no_word [] s = refl
+among_no_word (k ∷ ks) s = among_no_word ks s
+
+or_false : (b : Bool) → b ≡ (b || false)
+or_false true = refl
+or_false false = refl
+
+any_by : (k j : Terminal) (ks : List Terminal) (w : Word) (ws : List Word) (b : Bool) → is k w.kind ≡ b → any_of (j ∷ ks) (w ∷ ws) ≡ look w ws (among (j ∷ ks) w.kind)
+    → cond {A = Reads Word} (b || false) (t k) (any_of (j ∷ ks)) (w ∷ ws) ≡ look w ws (b || among (j ∷ ks) w.kind)
+unfolding t
+any_by k j ks w ws true e h = ap (look w ws) e
+any_by k j ks w ws false e h = h
+
+any_is : (ks : List Terminal) (w : Word) (ws : List Word) → any_of ks (w ∷ ws) ≡ look w ws (among ks w.kind)
+unfolding t
+any_is [] w ws = refl
+any_is (k ∷ []) w ws = ap (look w ws) (or_false (is k w.kind))
+any_is (k ∷ j ∷ ks) w ws = any_by k j ks w ws (is k w.kind) refl (any_is (j ∷ ks) w ws)
+
+any_none : (ks : List Terminal) → any_of ks [] ≡ useless []
+unfolding t
+any_none [] = refl
+any_none (k ∷ []) = refl
+any_none (k ∷ j ∷ ks) = any_none (j ∷ ks)
+
+module _ (ks : List Terminal) (us : List ℕ) (a : Ahead) where
+  pub took : (p : Piece) (end : ℕ) (r : Ahead) → a ≡ ahead.Word p end → true ≡ among ks (terminal p.terminal) → ahead_words us r ≡ from us end → Reading (any_of ks) (ahead_words us a) (got (word_of us p) (ahead_words us r))
+  took p end r i h e = record { so = ap (got (word_of us p)) e ∙ ap (look (word_of us p) (from us end)) h ∙ sym (any_is ks (word_of us p) (from us end)) ∙ ap (λ z. any_of ks (ahead_words us z)) (sym i) }
+
+  pub left : (p : Piece) (end : ℕ) → a ≡ ahead.Word p end → false ≡ among ks (terminal p.terminal) → Reading (any_of ks) (ahead_words us a) (useless (ahead_words us a))
+  left p end i h = record { so = ap (λ z. useless (ahead_words us z)) i ∙ ap (look (word_of us p) (from us end)) h ∙ sym (any_is ks (word_of us p) (from us end)) ∙ ap (λ z. any_of ks (ahead_words us z)) (sym i) }
+
+  pub sees_word : (p : Piece) (end : ℕ) (b : Bool) → a ≡ ahead.Word p end → b ≡ among ks (terminal p.terminal) → b ≡ next ks (ahead_words us a)
+  sees_word p end b i h = h ∙ sym (next_is ks (word_of us p) (from us end)) ∙ ap (λ z. next ks (ahead_words us z)) (sym i)
+
+-- no word stands ahead
+abbrev pub Wordless : Ahead → Type 0
+Wordless a = (p : Piece) (end : ℕ) → a ≡ ahead.Word p end → ⊥
+
+module _ (ks : List Terminal) (us : List ℕ) where
+  pub sees_none : (a : Ahead) → Wordless a → false ≡ next ks (ahead_words us a)
+  sees_none (ahead.Word p end) h = absurd (h p end refl)
+  sees_none (ahead.Slip s at end) h = sym (next_is ks (slip_at s at) (from us end) ∙ among_no_word ks s)
+  sees_none ahead.End h = sym (next_none ks)
+
+  pub left_none : (a : Ahead) → Wordless a → Reading (any_of ks) (ahead_words us a) (useless (ahead_words us a))
+  left_none (ahead.Word p end) h = absurd (h p end refl)
+  left_none (ahead.Slip s at end) h = record { so = sym (any_is ks (slip_at s at) (from us end) ∙ ap (look (slip_at s at) (from us end)) (among_no_word ks s)) }
+  left_none ahead.End h = record { so = sym (any_none ks) }
+
+-- more is left
+pub some_left : (us : List ℕ) (a : Ahead) → (a ≡ ahead.End → ⊥) → false ≡ is_none (ahead_words us a)
+some_left us (ahead.Word p end) h = refl
+some_left us (ahead.Slip s at end) h = refl
+some_left us ahead.End h = absurd (h refl)
 
 -- a token, held by places
 module _ (us : List ℕ) (l : Lexeme) where

@@ -1,4 +1,4 @@
-pub mod Short
 pub mod Expecting
 pub mod Many
 pub mod Items
+pub mod Choosing

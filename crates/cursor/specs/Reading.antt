@@ -1,11 +1,13 @@
 -- What a cursor has still before it, and what a result of it says of that.
-use Rattle.std.specs.Prelude.{◌≡◌, ℕ, Bool, true, false, List, [], ◌∷◌, Ok, Err, Result}
+use Rattle.std.specs.Prelude.{◌≡◌, ℕ, Bool, true, false, cond, List, [], ◌∷◌, Some, None, Option, Ok, Err, Result}
 use Rattle.units.specs.Units.{units}
 use Rattle.faults.specs.At.{fault_at}
 use Rattle.faults.specs.declared.Cause.TheVariants.{OverLimit}
 use Rattle.faults.specs.declared.Fault.{Fault}
+use Rattle.words.specs.Terminals.{Kind, is}
 use Rattle.words.specs.Words.{Word}
-use Rattle.grammar.specs.Readers.{Got, got, useless, past, Reads, first_place}
+use Rattle.words.specs.declared.terminals.Terminal.{Terminal}
+use Rattle.grammar.specs.Readers.{Got, got, useless, past, Reads, ◌starts◌else◌, ◌>>◌, return, stop, t, first_place}
 use Rattle.grammar.specs.Whole.{fault_from}
 use Rattle.cursor.specs.Ahead.{short, ahead_words}
 use Rattle.cursor.specs.declared.cursor.Cursor.{Cursor}
@@ -32,6 +34,28 @@ shown f (Err e) ws = stopped e ws
 -- the production p gives g of these words
 pub record Reading {A : Type 0} (p : Reads A) (ws : List Word) (g : Got A) : Type 0 where
   pub so : g ≡ p ws
+
+-- the production p gives, of the words from where a cursor stood, what v shows of a result, and the words from where it then stands in the same text
+pub record Parses {A X : Type 0} (p : Reads A) (v : List ℕ → X → A) (old : Cursor) (r : Result X Stop) (new : Cursor) : Type 0 where
+  pub reads : Reading p (rest old) (shown (v (text_of old)) r (rest new))
+  pub text : text_of new ≡ text_of old
+
+-- one word, which is one of these terminals
+abbrev pub any_of : List Terminal → Reads Word
+any_of [] = stop
+any_of (k ∷ []) = t k
+any_of (k ∷ j ∷ ks) = (k ∷ []) starts t k else any_of (j ∷ ks)
+
+-- what stands in a table beside the terminal that a word is
+abbrev pub beside : {A : Type 0} → List (Terminal × A) → Kind → Option A
+beside [] m = None
+beside (e ∷ es) m = cond (is e.0 m) (Some e.1) (beside es m)
+
+-- one word of a table's terminals, for what stands beside the terminal
+abbrev pub choice : {A : Type 0} → List (Terminal × A) → Reads A
+choice [] = stop
+choice (e ∷ []) = t e.0 >> return e.1
+choice (e ∷ f ∷ es) = (e.0 ∷ []) starts t e.0 >> return e.1 else choice (f ∷ es)
 
 -- the fault at a stop, in a text of so many units
 abbrev pub fault_of : ℕ → Stop → List Word → Fault

@@ -125,7 +125,7 @@ module _ (us : List ℕ) where
       type_cond
 
   opt_cond_list : Keeps P.OptCondList (AllByRecursion (CondLies us))
-  opt_cond_list = either conds_begin (several Comma conds_begin P.ACond (CondLies us) a_cond 4) (returns [] tt)
+  opt_cond_list = either conds_begin (several Comma conds_begin P.ACond (CondLies us) a_cond _) (returns [] tt)
 
   body : Keeps P.SelConditionBody (AllByRecursion (CondLies us))
   body = then (word _) (λ _ _. then opt_cond_list (λ cs h. then (word _) (λ _ _. returns cs h)))
@@ -135,7 +135,7 @@ module _ (us : List ℕ) where
       either (OpenSquare ∷ []) (then body (λ cs h. returns _ h)) (then (word _) (λ i _. then (word _) (λ _ _. then body (λ cs h. returns _ h))))
 
   conditions : Keeps P.Conditions (AllByRecursion (SelectionLies us))
-  conditions = either selections_begin (several And selections_begin P.SelCondition (SelectionLies us) sel_condition 4) (returns [] tt)
+  conditions = either selections_begin (several And selections_begin P.SelCondition (SelectionLies us) sel_condition _) (returns [] tt)
 
   -- actions
   property : (i : Word) → Keeps (P.property i) (ExprLies us)

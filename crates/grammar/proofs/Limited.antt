@@ -247,8 +247,8 @@ four cs = length cs ≤ 4
 
 cond_list : Good P.CondList (Lim G.CondList four) CondPast (Among conds_begin) (Among (CloseSquare ∷ []))
 cond_list =
-    same (lists Comma conds_begin (CloseSquare ∷ []) G.Cond (λ _. Unit {0}) Never (same a_cond (λ m ws c d. record { says = d; fits = keep_all m tt }) (λ m ws c d. d.says) (λ f w h. h) (λ f w h. h)) refl refl begins_cond 4)
-    (λ m ws cs d. record { says = d.says; fits = keep {S = Fits (λ _. Unit {0}) 4 cs} m (λ q. q.0) d.fits }) (λ m ws cs d. record { says = d.says; fits = keep {S = four cs} m (λ q. (q, all_unit cs)) d.fits })
+    same (lists Comma conds_begin (CloseSquare ∷ []) G.Cond (λ _. Unit {0}) Never (same a_cond (λ m ws c d. record { says = d; fits = keep_all m tt }) (λ m ws c d. d.says) (λ f w h. h) (λ f w h. h)) refl refl begins_cond _)
+    (λ m ws cs d. record { says = d.says; fits = keep {S = Fits (λ _. Unit {0}) _ cs} m (λ q. q.0) d.fits }) (λ m ws cs d. record { says = d.says; fits = keep {S = four cs} m (λ q. (q, all_unit cs)) d.fits })
     (λ f w h. h) (λ f w h. h)
 
 -- none, or what R says
@@ -328,7 +328,7 @@ abbrev pub SelsWithin : List Selection → Type 0
 SelsWithin = Fits SelectionWithin 4
 
 selection_list : Good P.SelConditionList (Lim G.SelConditionList SelsWithin) SelectionPast (Among selections_begin) (Among (Imply ∷ []))
-selection_list = lists And selections_begin (Imply ∷ []) G.SelCondition SelectionWithin PastInSelection selection refl refl begins_selection 4
+selection_list = lists And selections_begin (Imply ∷ []) G.SelCondition SelectionWithin PastInSelection selection refl refl begins_selection _
 
 conditions : Good P.Conditions (Lim G.Conditions SelsWithin) SelectionPast (Among rules_begin) (Among (Imply ∷ []))
 conditions = same (alt selection_list (returned []) refl) to (λ m ws ss d. from m ws ss d.says d.fits) (only_left SelectionPast) (λ f w h. in_left h)

@@ -8,22 +8,16 @@ ghost use Rattle.grammar.specs.Examples.{Examples};
 ghost use Rattle.grammar.specs.Lying.{Lying};
 
 // The parse is exact for the grammar.
-pub fn grammar_is_exact() -> u8
+pub fn grammar_is_exact()
     ensures { Exact }
-{
-    0
-}
+{}
 
 // The examples hold.
-pub fn examples_stand() -> u8
+pub fn examples_stand()
     ensures { Examples }
-{
-    0
-}
+{}
 
 // Every quoted word of a tree has the units of its text behind its opening quote.
-pub fn words_lie_in_the_text() -> u8
+pub fn words_lie_in_the_text()
     ensures { Lying }
-{
-    0
-}
+{}

@@ -17,14 +17,10 @@ pub fn parse(text: &[u8]) -> Result<Rules, Fault>
     ensures exact { Judged (short (units text.now)) (parsed_of (short (units text.now)) result) }
 {
     let mut cursor = Cursor::new(text);
-    match rules(&mut cursor) {
-        Ok(all) => {
-            if cursor.at_end() {
-                Ok(all)
-            } else {
-                Err(cursor.fault(Stop::Useless))
-            }
-        }
-        Err(stop) => Err(cursor.fault(stop)),
-    }
+    let stop = match rules(&mut cursor) {
+        Ok(all) if cursor.at_end() => return Ok(all),
+        Ok(_) => Stop::Useless,
+        Err(stop) => stop,
+    };
+    Err(cursor.fault(stop))
 }

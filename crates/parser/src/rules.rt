@@ -2,7 +2,7 @@
 ghost use Rattle.std.specs.Prelude.{◌≡◌};
 ghost use Rattle.grammar.specs.Parse as G;
 ghost use Rattle.grammar.specs.Readers.{next};
-ghost use Rattle.cursor.specs.Reading.{shown, rest, Reading, text_of};
+ghost use Rattle.cursor.specs.Reading.{Parses, rest};
 ghost use Rattle.parser.specs.Shown.{body_of, rule_of, rules_of};
 
 use super::tree::{Rule, Rules};
@@ -11,9 +11,8 @@ use conditions::{Selections, conditions};
 use cursor::{Cursor, Stop};
 use words::Terminal;
 
-fn rule_body<'a>(cursor: &mut Cursor<'a>) -> Result<(Selections, ActionRead), Stop>
-    ensures reads { Reading G.RuleBody (rest cursor.old) (shown (body_of (text_of cursor.old)) result (rest cursor.new)) }
-    ensures text { text_of cursor.new ≡ text_of cursor.old }
+fn rule_body(cursor: &mut Cursor<'_>) -> Result<(Selections, ActionRead), Stop>
+    ensures { Parses G.RuleBody body_of cursor.old result cursor.new }
 {
     let selections = conditions(cursor)?;
     cursor.expect(Terminal::Imply)?;
@@ -22,9 +21,8 @@ fn rule_body<'a>(cursor: &mut Cursor<'a>) -> Result<(Selections, ActionRead), St
     Ok((selections, action))
 }
 
-pub fn rule<'a>(cursor: &mut Cursor<'a>) -> Result<Rule, Stop>
-    ensures reads { Reading G.ARule (rest cursor.old) (shown (rule_of (text_of cursor.old)) result (rest cursor.new)) }
-    ensures text { text_of cursor.new ≡ text_of cursor.old }
+pub fn rule(cursor: &mut Cursor<'_>) -> Result<Rule, Stop>
+    ensures { Parses G.ARule rule_of cursor.old result cursor.new }
 {
     let at = cursor.place();
     let (selections, action) = rule_body(cursor)?;
@@ -35,16 +33,15 @@ pub fn rule<'a>(cursor: &mut Cursor<'a>) -> Result<Rule, Stop>
     })
 }
 
-pub fn begins_rule<'a>(cursor: &Cursor<'a>) -> bool
+pub fn begins_rule(cursor: &Cursor<'_>) -> bool
     ensures { result ≡ next G.rules_begin (rest cursor.now) }
 {
-    cursor.sees_either(Terminal::OpenSquare, Terminal::Identifier) || cursor.sees(Terminal::Imply)
+    cursor.sees(&[Terminal::OpenSquare, Terminal::Identifier, Terminal::Imply])
 }
 
 // The rules up to the first word that begins none.
-pub fn rules<'a>(cursor: &mut Cursor<'a>) -> Result<Rules, Stop>
-    ensures reads { Reading G.RuleSet (rest cursor.old) (shown (rules_of (text_of cursor.old)) result (rest cursor.new)) }
-    ensures text { text_of cursor.new ≡ text_of cursor.old }
+pub fn rules(cursor: &mut Cursor<'_>) -> Result<Rules, Stop>
+    ensures { Parses G.RuleSet rules_of cursor.old result cursor.new }
 {
     let mut all = Rules::new();
     for _ in 0..32usize {

@@ -1,3 +1,5 @@
 pub mod Spelling
-pub mod Slips
+pub mod Lexemes
 pub mod Following
+pub mod Found
+pub mod Runs

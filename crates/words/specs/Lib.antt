@@ -1,6 +1,6 @@
 pub mod Terminals
 pub mod Words
-pub mod Classes
+pub mod Tables
 pub mod Signs
 pub mod Places
 pub mod Tokens

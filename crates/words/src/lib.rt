@@ -3,12 +3,14 @@
 // Units that are no word are told by why, at their first unit.
 #![tactic(auto)]
 
+mod places;
 mod reads;
 mod signs;
+mod tables;
 mod terminals;
 mod tokens;
 mod units_of;
 
 pub use reads::read;
-pub use terminals::{Slip, Terminal, mark_of};
+pub use terminals::{Slip, Terminal};
 pub use tokens::{Lexeme, Token};

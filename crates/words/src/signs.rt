@@ -1,5 +1,5 @@
 // The terminals that are told by their characters.
-ghost use Rattle.std.specs.Prelude.{◌≡◌, Some, None};
+ghost use Rattle.std.specs.Prelude.{◌≡◌};
 ghost use Rattle.words.specs.Signs.{sign_of};
 
 use super::terminals::Terminal;
@@ -12,64 +12,27 @@ pub struct Sign {
     pub long: usize,
 }
 
-fn one(terminal: Terminal) -> Sign
-    ensures { (result.terminal ≡ terminal) × (result.long ≡ 1) }
-{
-    Sign { terminal, long: 1 }
-}
-
-fn two(terminal: Terminal) -> Sign
-    ensures { (result.terminal ≡ terminal) × (result.long ≡ 2) }
-{
-    Sign { terminal, long: 2 }
-}
-
-fn behind_equals(after: u16) -> Sign
-    ensures { Some result ≡ sign_of 61 after }
-{
-    match as_char(after) {
-        '>' => two(Terminal::Imply),
-        '=' => two(Terminal::Equal),
-        '~' => two(Terminal::Matches),
-        _ => one(Terminal::Assign),
-    }
-}
-
-fn behind_exclamation(after: u16) -> Option<Sign>
-    ensures { result ≡ sign_of 33 after }
-{
-    match as_char(after) {
-        '=' => Some(two(Terminal::NotEqual)),
-        '~' => Some(two(Terminal::NotMatches)),
-        _ => None,
-    }
-}
-
-fn behind_ampersand(after: u16) -> Option<Sign>
-    ensures { result ≡ sign_of 38 after }
-{
-    match as_char(after) {
-        '&' => Some(two(Terminal::And)),
-        _ => None,
-    }
-}
-
 // The longest terminal that begins with the unit, given the unit after it.
 pub fn sign_of(u: u16, after: u16) -> Option<Sign>
     ensures { result ≡ sign_of u after }
 {
-    match as_char(u) {
-        '=' => Some(behind_equals(after)),
-        '!' => behind_exclamation(after),
-        '&' => behind_ampersand(after),
-        ';' => Some(one(Terminal::Semicolon)),
-        ':' => Some(one(Terminal::Colon)),
-        ',' => Some(one(Terminal::Comma)),
-        '.' => Some(one(Terminal::Dot)),
-        '[' => Some(one(Terminal::OpenSquare)),
-        ']' => Some(one(Terminal::CloseSquare)),
-        '(' => Some(one(Terminal::OpenRound)),
-        ')' => Some(one(Terminal::CloseRound)),
-        _ => None,
-    }
+    let (terminal, long) = match (as_char(u), as_char(after)) {
+        ('=', '>') => (Terminal::Imply, 2),
+        ('=', '=') => (Terminal::Equal, 2),
+        ('=', '~') => (Terminal::Matches, 2),
+        ('=', _) => (Terminal::Assign, 1),
+        ('!', '=') => (Terminal::NotEqual, 2),
+        ('!', '~') => (Terminal::NotMatches, 2),
+        ('&', '&') => (Terminal::And, 2),
+        (';', _) => (Terminal::Semicolon, 1),
+        (':', _) => (Terminal::Colon, 1),
+        (',', _) => (Terminal::Comma, 1),
+        ('.', _) => (Terminal::Dot, 1),
+        ('[', _) => (Terminal::OpenSquare, 1),
+        (']', _) => (Terminal::CloseSquare, 1),
+        ('(', _) => (Terminal::OpenRound, 1),
+        (')', _) => (Terminal::CloseRound, 1),
+        _ => return None,
+    };
+    Some(Sign { terminal, long })
 }

@@ -34,7 +34,7 @@ pub enum Terminal {
 }
 
 // No terminal begins so, a string is not closed, a word is over its limit.
-#[derive(Clone, Copy)]
+#[derive(Clone, Copy, PartialEq, Eq, Debug)]
 pub enum Slip {
     BeginsNone,
     NotClosed,
@@ -42,8 +42,10 @@ pub enum Slip {
 }
 
 // The terminal's number in the order of their list.
-pub fn mark_of(terminal: Terminal) -> u8
-    ensures { result ≡ mark terminal }
-{
-    terminal as u8
+impl From<Terminal> for u8 {
+    ghost from_gives = { λ t n. n ≡ mark t };
+
+    fn from(terminal: Terminal) -> u8 {
+        terminal as u8
+    }
 }

@@ -1,4 +1,5 @@
 // A word as it is read: its terminal, and the units of a name or of what is quoted.
+// Units that are no word are a token too, and no error beside it, since they are the text's last word.
 use super::terminals::{Slip, Terminal};
 
 #[derive(Clone, Copy)]

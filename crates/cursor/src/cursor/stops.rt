@@ -14,6 +14,7 @@ use faults::{Cause, Fault};
 use units::count;
 use words::Slip;
 
+// A function and no From, since neither type is this crate's own.
 fn cause(slip: Slip) -> Cause
     ensures { result ≡ cause_of (unreadable slip) }
 {
@@ -32,6 +33,7 @@ fn units_read(text: &[u8]) -> u16
 
 impl<'a> Cursor<'a> {
     // The place of the next word, 0 at the end.
+    #[tactic(auto, unfolding(crate::specs::Reading::rest, crate::specs::Reading::text_of))]
     pub fn place(&self) -> u16
         ensures { result ≡ first_place (rest self.now) }
     {
@@ -42,17 +44,15 @@ impl<'a> Cursor<'a> {
         }
     }
 
+    #[tactic(auto, unfolding(crate::specs::Reading::rest, crate::specs::Reading::text_of))]
     pub fn at_end(&self) -> bool
         ensures { result ≡ is_none (rest self.now) }
     {
-        match self.ahead {
-            Ahead::Word(_, _) => false,
-            Ahead::Slip(_, _, _) => false,
-            Ahead::End => true,
-        }
+        matches!(self.ahead, Ahead::End)
     }
 
     // The fault at a word without use, or at the end of the text.
+    #[tactic(auto, unfolding(crate::specs::Reading::rest, crate::specs::Reading::text_of))]
     fn unexpected(&self) -> Fault
         ensures { result ≡ fault_from (length (text_of self.now)) (rest self.now) }
     {

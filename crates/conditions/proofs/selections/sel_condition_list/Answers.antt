@@ -36,14 +36,14 @@ loop-preserved c =
     let e = more And selections_begin SelCondition (3 - c.loop.counter) (selections_of (text_of c.args.cursor.now) c.loop.all) (rest c.loop.cursor) _ _ c.in_ok-sel_condition.ensures.reads _ _ c.if-not-sees.ensures c.in_ok-expect.ensures.reads in
     search rules
 
-pub returns-then-sees_either : goal.returns-then-sees_either
-returns-then-sees_either c =
+pub returns-then-sees : goal.returns-then-sees
+returns-then-sees c =
     let z : 4 - c.loop.counter ≡ 0 = omega arith in
-    let e = over And selections_begin SelCondition (selections_of (text_of c.args.cursor.now) c.loop.all) (rest c.loop.cursor) true c.if-sees_either.ensures in
+    let e = over And selections_begin SelCondition (selections_of (text_of c.args.cursor.now) c.loop.all) (rest c.loop.cursor) true c.if-sees.ensures in
     search rules
 
-pub returns-else-sees_either : goal.returns-else-sees_either
-returns-else-sees_either c =
+pub returns-else-sees : goal.returns-else-sees
+returns-else-sees c =
     let z : 4 - c.loop.counter ≡ 0 = omega arith in
-    let e = over And selections_begin SelCondition (selections_of (text_of c.args.cursor.now) c.loop.all) (rest c.loop.cursor) false c.if-sees_either.ensures in
+    let e = over And selections_begin SelCondition (selections_of (text_of c.args.cursor.now) c.loop.all) (rest c.loop.cursor) false c.if-sees.ensures in
     search rules

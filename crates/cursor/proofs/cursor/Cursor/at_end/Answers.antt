@@ -1,15 +1,7 @@
-use Rattle.std.proofs.Common.{rules}
 use Rattle.cursor.specs.Reading.{rest}
+use Rattle.cursor.proofs.Expecting.{some_left}
 use Rattle.cursor.proofs.cursor.Cursor.at_end.Goals as goal
 
-pub returns-in-Word : goal.returns-in-Word
+pub returns-in_default : goal.returns-in_default
 unfolding rest
-returns-in-Word c = search rules
-
-pub returns-in-Slip : goal.returns-in-Slip
-unfolding rest
-returns-in-Slip c = search rules
-
-pub returns-in-End : goal.returns-in-End
-unfolding rest
-returns-in-End c = search rules
+returns-in_default c = some_left _ _ c.in_default.not-End
