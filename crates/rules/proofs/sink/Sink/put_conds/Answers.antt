@@ -1,10 +1,6 @@
 use Rattle.std.proofs.Common.{refl}
 use Rattle.rules.proofs.Each.{each_found, each_end, of_conds, of_cond, conds_push}
-use Rattle.rules.proofs.Filling.{put_none}
 use Rattle.rules.proofs.sink.Sink.put_conds.Goals as goal
-
-pub loop-c-init : goal.loop-c-init
-loop-c-init c = put_none c.args.self.now
 
 pub loop-c-preserved : goal.loop-c-preserved
 loop-c-preserved c =

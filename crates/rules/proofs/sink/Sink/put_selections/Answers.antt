@@ -1,9 +1,5 @@
 use Rattle.rules.proofs.Each.{each_found, each_end, of_selections, of_selection, selections_push}
-use Rattle.rules.proofs.Filling.{put_none}
 use Rattle.rules.proofs.sink.Sink.put_selections.Goals as goal
-
-pub loop-s-init : goal.loop-s-init
-loop-s-init c = put_none c.args.self.now
 
 pub loop-s-preserved : goal.loop-s-preserved
 loop-s-preserved c =

@@ -9,11 +9,8 @@ use Rattle.parts.specs.Laid.{lay_rule}
 use Rattle.rules.specs.Held.{Put}
 use Rattle.rules.specs.Read.{told_of}
 use Rattle.rules.proofs.Filling.{put_as}
-use Rattle.rules.proofs.Reading.{SoFar, none_yet, ends_here, stops_inside, one_further, one_too_many, ends_full}
+use Rattle.rules.proofs.Reading.{SoFar, ends_here, stops_inside, one_further, one_too_many, ends_full}
 use Rattle.rules.proofs.sink.Sink.read_rules.Goals as goal
-
-pub loop-i-init : goal.loop-i-init
-loop-i-init c = (refl, none_yet (rest c.args.cursor.now) c.args.self.now)
 
 pub returns-then-not-begins_rule-clause-reads : goal.returns-then-not-begins_rule-clause-reads
 returns-then-not-begins_rule-clause-reads c =
