@@ -1,14 +1,20 @@
-use Rattle.std.proofs.Common.{◌≡◌, ℕ, ◌+◌, ◌<◌, ◌≤◌, Bool, true, false, List, [], ◌∷◌, ◌++◌, length, take, drop, is_ok, IfOk, Some, None, Ok, Err, Option, Result, sym, refl, ap, ◌∙◌, arith}
+use Rattle.std.proofs.Common.{◌≡◌, ℕ, ◌≤◌, true, List, ◌++◌, length, take, drop, is_ok, IfOk, Some, None, Ok, Err, Option, Result, refl, ap, ◌∙◌, arith}
 use Rattle.std.proofs.lemmas.List.{drop_all, append-nil}
 use Rattle.std.proofs.lemmas.Bool.Decides.{nat_tests}
 use Rattle.claims.specs.declared.records.Claim.{Claim}
 use Rattle.faults.specs.declared.Fault.{Fault}
 use Rattle.claims.specs.Meaning as meaning
 use Rattle.packet.specs.Judge.{judge}
+use Rattle.writer.specs.Rewriting.{Rewrote}
 use Rattle.writer.specs.Writing.{packed, answer_to, ReadsBack, Wrote}
 
-pub same_again : (bytes old new : List ℕ) (n : ℕ) → length old ≡ length bytes → n ≡ length bytes → new ≡ bytes ++ drop n old → new ≡ bytes
+same_again : (bytes old new : List ℕ) (n : ℕ) → length old ≡ length bytes → n ≡ length bytes → new ≡ bytes ++ drop n old → new ≡ bytes
 same_again bytes old new n h k e = e ∙ ap (λ t. bytes ++ t) (drop_all n old (omega arith)) ∙ append-nil bytes
+
+-- an accepted packet always fits a buffer of its length, and is the same again
+pub rewrote_same : (bytes old new : List ℕ) (r : Result ℕ Fault) → length old ≡ length bytes → Rewrote bytes old new r → (is_ok r ≡ true) × (new ≡ bytes)
+rewrote_same bytes old new (Ok n) k w = (refl, same_again bytes old new n k w.0 w.2)
+rewrote_same bytes old new (Err f) k w = let l = w.1 in absurd (omega arith)
 
 packed_within : (cs : List meaning.Claim) (room n : ℕ) → Ok n ≡ packed cs room → n ≤ room
 packed_within cs room n e = grind (arith, nat_tests)

@@ -1,4 +1,3 @@
-use Rattle.std.proofs.Common.{refl}
 use Rattle.packing.proofs.Written.{wrote_within, wrote_accepted}
 use Rattle.packing.proofs.packs.pack_into.Goals as goal
 
