@@ -68,6 +68,7 @@ impl<'a> Bytes<'a> {
             if count == MAX_CLAIMS {
                 return Err(Fault::at(Cause::TooManyClaims, at as u16));
             }
+            // By cases: with `map_err` and `?` the proof that the fault is the walk's did not close.
             match self.claim_at(at) {
                 Ok(claim) => {
                     at = past(claim);

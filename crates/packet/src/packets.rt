@@ -9,7 +9,7 @@ use super::fields::Bytes;
 use claims::{Claim, Source};
 use faults::Fault;
 
-// Only a check makes one, so whoever holds it holds bytes that were accepted.
+// Only a check makes one, and `empty`: whoever holds it holds bytes that were accepted.
 #[derive(Clone, Copy)]
 pub struct Packet<'a> {
     bytes: &'a [u8],

@@ -1,8 +1,8 @@
 -- Bytes written one after the other.
-use Rattle.std.proofs.Common.{◌≡◌, ℕ, ◌+◌, ◌*◌, ◌/◌, ◌%◌, ◌<◌, ◌≤◌, List, [], ◌∷◌, ◌++◌, length, take, drop, set, sym, refl, ap, ◌∙◌, append_assoc, add-one, arith, length-append}
+use Rattle.std.proofs.Common.{◌≡◌, ℕ, ◌+◌, ◌-◌, ◌*◌, ◌/◌, ◌%◌, ◌<◌, ◌≤◌, List, [], ◌∷◌, ◌++◌, length, take, drop, set, sym, refl, ap, ◌∙◌, append_assoc, add-one, zero-add, arith, length-append}
 use native.Mathlib.Nat.{div-div-eq-div-mul}
 use borrow.Rule.Slice.PartMut.{put_mid}
-use Rattle.std.proofs.lemmas.List.{take-append-drop, length-take-le, take_at, drop_at, drop-drop, set_split, length-set}
+use Rattle.std.proofs.lemmas.List.{take-append-drop, length-take-le, take_at, drop_at, drop-drop, drop_all, take_all, append-nil, length-drop, set_split, length-set}
 use Rattle.std.proofs.lemmas.Slice.{take-put_mid, drop-put_mid}
 use Rattle.units.specs.Units.{units}
 use Rattle.claims.specs.Meaning.{Claim}
@@ -39,6 +39,28 @@ written_copy old at k ys h e =
     ∙ ap (λ z. z ++ drop n (put_mid at k old ys)) (take-put_mid at k old ys n refl h)
     ∙ ap (λ z. (take at old ++ ys) ++ z) (drop-put_mid at k old ys n (omega arith) h e)
     ∙ append_assoc (take at old) ys (drop n old)
+
+pub length-written : (old bs : List ℕ) (at : ℕ) → at + length bs ≤ length old → length (written old at bs) ≡ length old
+length-written old bs at room =
+    let t = length-take-le at old (omega arith) in
+    let d = length-drop (at + length bs) old in
+    let a = length-append bs (drop (at + length bs) old) in
+    let b = length-append (take at old) (bs ++ drop (at + length bs) old) in
+    omega arith
+
+-- bytes at the front of the rest, which begins at a place
+pub written_rest : (old ys bs : List ℕ) (at k : ℕ) → at + length bs ≤ length old → k ≡ length old - at → ys ≡ written (take k (drop at old)) 0 bs → put_mid at k old ys ≡ written old at bs
+written_rest old ys bs at k room ik is =
+    let l = length-drop at old in
+    let m = length-drop (at + length bs) old in
+    let w : take k (drop at old) ≡ drop at old = take_all k (drop at old) (omega arith) in
+    let rest : ys ≡ bs ++ drop (at + length bs) old =
+    is ∙ ap (λ z. bs ++ drop (0 + length bs) z) w ∙ ap (λ n. bs ++ drop n (drop at old)) (zero-add (length bs)) ∙ ap (λ z. bs ++ z) (drop-drop (length bs) at old) in
+    let a = length-append bs (drop (at + length bs) old) in
+    let b = ap length rest in
+    let n : length ys ≡ k = omega arith in
+    let none : drop (at + length ys) old ≡ [] = drop_all (at + length ys) old (omega arith) in
+    written_copy old at k ys (omega arith) n ∙ ap (λ z. take at old ++ (ys ++ z)) none ∙ ap (λ z. take at old ++ z) (append-nil ys ∙ rest)
 
 -- a length byte and a copy: a text
 pub written_text : (old : List ℕ) (at n k : ℕ) (ys : List ℕ) → Bytes ys → n ≡ length (units ys) → length ys ≡ 2 * length (units ys) → at + 1 + length ys ≤ length old → length ys ≡ k

@@ -31,6 +31,6 @@ pub fn write_body<S: Source>(source: &S, texts: &Texts, out: &mut [u8])
 {
     let mut at = 3;
     for claim in Claims::of(source) {
-        at = write_claim(out, at, claim, texts);
+        at += write_claim(&mut out[at..], claim, texts);
     }
 }

@@ -10,8 +10,8 @@ byte_of false = refl
 
 pub returns : goal.returns
 returns c = record {
-  place = refl;
+  size = refl;
   bytes =
-      written_set c.args.out.now c.args.at c.from.result (omega arith)
-      ∙ ap (λ b. written c.args.out.now c.args.at (b ∷ [])) (c.from.ensures ∙ byte_of c.args.b);
+      written_set c.args.out.now 0 c.from.result (omega arith)
+      ∙ ap (λ b. written c.args.out.now 0 (b ∷ [])) (c.from.ensures ∙ byte_of c.args.b);
 }

@@ -18,6 +18,6 @@ returns c =
     let l = length-encode_text (shown_text c.args.texts.now.rules.now c.args.texts.now.packet.now c.args.text) in
     let k = ap length e in
     record {
-      place = omega (arith, c.write_text.ensures.place);
-      bytes = c.write_text.ensures.bytes ∙ ap (written c.args.out.now c.args.at) e;
+      size = omega (arith, c.write_text.ensures.size);
+      bytes = c.write_text.ensures.bytes ∙ ap (written c.args.out.now 0) e;
     }

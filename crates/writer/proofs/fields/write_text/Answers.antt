@@ -8,12 +8,11 @@ use Rattle.writer.proofs.fields.write_text.Goals as goal
 
 pub returns : goal.returns
 returns c =
-    let at = c.args.at in
     let text = c.args.text.now in
     record {
-      place = let l = length-encode_text (units c.args.text.now) in omega arith;
+      size = let l = length-encode_text (units c.args.text.now) in omega arith;
       bytes =
-          ap (put_mid (at + 1) (at + 1 + length text - (at + 1)) (set c.args.out.now at c.count.result)) c.copy_from_slice.ensures.after
-          ∙ written_text c.args.out.now at c.count.result (at + 1 + length text - (at + 1)) text
+          ap (put_mid 1 (1 + length text - 1) (set c.args.out.now 0 c.count.result)) c.copy_from_slice.ensures.after
+          ∙ written_text c.args.out.now 0 c.count.result (1 + length text - 1) text
           (All-from_get_or (λ b. b < 256) text 0 (λ i _. (c.type_inv.text i).fits)) c.count.ensures c.requires.even (omega arith) (omega arith);
     }
