@@ -1,7 +1,9 @@
 -- One part more in a sink: what it holds, whether there was room or not.
-use Rattle.std.proofs.Common.{◌≡◌, ℕ, suc, ◌-◌, ◌<◌, ◌≤◌, true, false, ltb, List, [], ◌∷◌, ◌++◌, length, take, set, replicate, sym, refl, ap, ◌∙◌, subst, append_assoc, append-nil, arith}
+use Rattle.std.proofs.Common.{◌≡◌, ℕ, suc, ◌-◌, ◌<◌, ◌≤◌, ◌↔◌, true, false, Ok, Err, Result, ltb, List, [], ◌∷◌, ◌++◌, length, take, set, replicate, sym, refl, ap, ◌∙◌, subst, append_assoc, append-nil, arith}
 use Rattle.std.proofs.lemmas.List.{take_all, take-append-le, set_at, length_push, length-take}
-use Rattle.std.proofs.lemmas.Bool.{ltb-true, ltb-false, lt-ltb, le-ltb}
+use Rattle.std.proofs.lemmas.Bool.{lt-ltb, le-ltb}
+use Rattle.std.specs.Result.{IsOk, OnOk, OnErr, is_err}
+use Rattle.list.specs.declared.lists.Full.{Full}
 use Rattle.list.specs.Held.{items, room}
 use Rattle.parts.specs.declared.Part.{Part}
 use Rattle.parts.specs.declared.Part.TheVariants.{Blank}
@@ -43,31 +45,33 @@ module _ (n : ℕ) (ps : List Part) (x : Part) where
   longer : n ≤ length (take n ps) → n ≤ length ps
   longer h = let e = length-take n ps in omega arith
 
-module _ (s t : Sink) (x : Part) (space : room t.list ≡ room s.list) where
-  pub put_room : ltb (length (items s.list)) (room s.list) ≡ true → items t.list ≡ items s.list ++ (x ∷ [])
-      → t.list.slots.now ≡ set s.list.slots.now (length (items s.list)) x → t.short ≡ s.short → Put (x ∷ []) s t
+module _ (s t : Sink) (x : Part) (text : t.text ≡ s.text) (space : room t.list ≡ room s.list) where
+  put_room : length (items s.list) < room s.list → items t.list ≡ items s.list ++ (x ∷ [])
+      → t.list.slots.now ≡ set s.list.slots.now (length (items s.list)) x → is_err t.last ≡ false → Put (x ∷ []) s t
   put_room r i l h = record {
+    text = text;
     same = space;
     holds = λ qs k.
         let n = room_of s in
-        let e : length (take n qs) < n = ltb-true (length (take n qs)) n (ap (λ z. ltb (length z) n) (sym k.items) ∙ r) in
+        let e : length (take n qs) < n = subst (λ z. length z < n) k.items r in
         let g = shorter n qs x e in
         let p = length_push qs x in
         record {
           items = i ∙ ap (λ z. z ++ (x ∷ [])) k.items ∙ room_items n qs x g ∙ ap (λ m. take m (qs ++ (x ∷ []))) (sym space);
           slots = l ∙ ap (λ z. set s.list.slots.now (length z) x) k.items ∙ ap (λ z. set z (length (take n qs)) x) k.slots
               ∙ room_slots n qs x g ∙ ap (λ m. padded m (qs ++ (x ∷ []))) (sym space);
-          short = h ∙ k.short ∙ le-ltb n (length qs) (omega arith) ∙ sym (le-ltb n (length (qs ++ (x ∷ []))) (omega arith)) ∙ ap (λ m. ltb m (length (qs ++ (x ∷ [])))) (sym space);
+          short = h ∙ sym (le-ltb n (length (qs ++ (x ∷ []))) (omega arith)) ∙ ap (λ m. ltb m (length (qs ++ (x ∷ [])))) (sym space);
         };
   }
 
-  pub put_full : ltb (length (items s.list)) (room s.list) ≡ false → items t.list ≡ items s.list
-      → t.list.slots.now ≡ s.list.slots.now → t.short ≡ true → Put (x ∷ []) s t
+  put_full : room s.list ≤ length (items s.list) → items t.list ≡ items s.list
+      → t.list.slots.now ≡ s.list.slots.now → is_err t.last ≡ true → Put (x ∷ []) s t
   put_full r i l h = record {
+    text = text;
     same = space;
     holds = λ qs k.
         let n = room_of s in
-        let e : n ≤ length (take n qs) = ltb-false (length (take n qs)) n (ap (λ z. ltb (length z) n) (sym k.items) ∙ r) in
+        let e : n ≤ length (take n qs) = subst (λ z. n ≤ length z) k.items r in
         let g = longer n qs x e in
         let p = length_push qs x in
         record {
@@ -77,8 +81,16 @@ module _ (s t : Sink) (x : Part) (space : room t.list ≡ room s.list) where
         };
   }
 
+  -- what a push answers
+  pub put_told : (r : Result (Unit {0}) Full) → t.last ≡ r → IsOk r ↔ (length (items s.list) < room s.list) → OnOk r (items t.list ≡ items s.list ++ (x ∷ []))
+      → OnOk r (t.list.slots.now ≡ set s.list.slots.now (length (items s.list)) x) → OnErr r (t.list ≡ s.list) → Put (x ∷ []) s t
+  put_told (Ok u) e v i l k = put_room (v.0 refl) i l (ap is_err e)
+  put_told (Err f) e v i l k =
+      let no : length (items s.list) < room s.list → ⊥ = λ h. (let z : false ≡ true = v.1 h in cc) in
+      put_full (omega (arith, no)) (ap items k) (ap (λ z. z.slots.now) k) (ap is_err e)
+
 -- an empty sink whose slots are blank
-pub empty : (s : Sink) → items s.list ≡ [] → s.list.slots.now ≡ replicate (room_of s) Blank → s.short ≡ false → Holds [] s
+pub empty : (s : Sink) → items s.list ≡ [] → s.list.slots.now ≡ replicate (room_of s) Blank → is_err s.last ≡ false → Holds [] s
 empty s i l h = record {
   items = i ∙ sym (take_all (room_of s) [] (omega arith));
   slots = l ∙ sym (ap (λ z. z ++ replicate (room_of s - 0) Blank) (take_all (room_of s) [] (omega arith)) ∙ ap (λ k. replicate k Blank) (let e : room_of s - 0 ≡ room_of s = omega arith in e));
@@ -88,12 +100,13 @@ empty s i l h = record {
 -- parts in two goes
 pub put_twice : (ps qs : List Part) (s t u : Sink) → Put ps s t → Put qs t u → Put (ps ++ qs) s u
 put_twice ps qs s t u a b = record {
+  text = b.text ∙ a.text;
   same = b.same ∙ a.same;
   holds = λ os k. let e = append_assoc os ps qs in let h = b.holds (os ++ ps) (a.holds os k) in rw (← e) h;
 }
 
 pub put_none : (s : Sink) → Put [] s s
-put_none s = record { same = refl; holds = λ os k. rw append-nil k }
+put_none s = record { text = refl; same = refl; holds = λ os k. rw append-nil k }
 
 -- the same parts and the same sink under other names
 pub put_as : (ps qs : List Part) (s t u : Sink) → ps ≡ qs → u ≡ t → Put ps s t → Put qs s u

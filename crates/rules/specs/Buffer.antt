@@ -1,12 +1,12 @@
 -- What the buffer for the parts holds after loading, and what checked rules are.
-use Rattle.std.specs.Prelude.{◌≡◌, ℕ, ◌-◌, List, [], ◌++◌, length, take, replicate}
+use Rattle.std.specs.Prelude.{ℕ, ◌-◌, List, [], ◌++◌, length, take, replicate}
 use Rattle.units.specs.Units.{units}
 use Rattle.grammar.specs.Tree.{Rule}
 use Rattle.grammar.specs.Whole.{Parsed, rules, fault, parse}
 use Rattle.parts.specs.Laid.{lay_rules}
 use Rattle.parts.specs.declared.Part.{Part}
 use Rattle.parts.specs.declared.Part.TheVariants.{Blank}
-use Rattle.rules.specs.Judged.{Verdict, accepted, refused, judged}
+use Rattle.rules.specs.Judged.{Verdict, accepted, refused}
 
 -- these parts, as many as there is room for, and blanks behind them
 abbrev pub padded : ℕ → List Part → List Part
@@ -23,9 +23,3 @@ tree_from (fault f) = []
 -- the rules that a text derives
 abbrev pub tree_of : List ℕ → List Rule
 tree_of bytes = tree_from (parse (units bytes))
-
--- a text that is accepted, with its parts and the number of its rules
-pub record Checked (bytes : List ℕ) (ps : List Part) (many : ℕ) : Type 0 where
-  pub verdict : judged bytes (length ps) ≡ accepted (tree_of bytes)
-  pub laid : ps ≡ padded (length ps) (lay_rules (tree_of bytes))
-  pub rules : many ≡ length (tree_of bytes)

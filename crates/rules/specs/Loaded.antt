@@ -1,13 +1,15 @@
--- What loading hands out: the rules of the text, or a fault with the rules of the empty text.
-use Rattle.std.specs.Prelude.{ℕ, List, [], Some, None, Option}
-use Rattle.faults.specs.declared.Fault.{Fault}
+-- What loading hands out: the rules of the text, or a fault; and the buffer either way.
+use Rattle.std.specs.Prelude.{ℕ, List, Ok, Err, Result}
+use Rattle.parts.specs.declared.Part.{Part}
 use Rattle.rules.specs.Buffer.{tree_of}
 use Rattle.rules.specs.Judged.{Verdict, accepted, refused}
+use Rattle.rules.specs.declared.checked.Rules.{Rules}
+use Rattle.rules.specs.declared.checked.load.Refused.{Refused}
 
-abbrev pub verdict_of : List ℕ → Option Fault → Verdict
-verdict_of bytes None = accepted (tree_of bytes)
-verdict_of bytes (Some f) = refused f
+abbrev pub verdict_of : List ℕ → Result Rules Refused → Verdict
+verdict_of bytes (Ok rules) = accepted (tree_of bytes)
+verdict_of bytes (Err r) = refused r.fault
 
-abbrev pub text_after : List ℕ → Option Fault → List ℕ
-text_after bytes None = bytes
-text_after bytes (Some f) = []
+abbrev pub parts_of : Result Rules Refused → List Part
+parts_of (Ok rules) = rules.parts.now
+parts_of (Err r) = r.parts.now

@@ -1,10 +1,8 @@
 -- What judging a text into a sink answers, and what it leaves there.
-use Rattle.std.specs.Prelude.{◌≡◌, ℕ, List, length, replicate, Ok, Err, Result}
+use Rattle.std.specs.Prelude.{◌≡◌, ℕ, List, length, Ok, Err, Result}
 use Rattle.faults.specs.declared.Fault.{Fault}
 use Rattle.parts.specs.Laid.{lay_rules}
-use Rattle.parts.specs.declared.Part.{Part}
-use Rattle.parts.specs.declared.Part.TheVariants.{Blank}
-use Rattle.rules.specs.Buffer.{Checked, tree_of}
+use Rattle.rules.specs.Buffer.{tree_of}
 use Rattle.rules.specs.Held.{Holds, room_of}
 use Rattle.rules.specs.Judged.{accepted, refused, judged}
 use Rattle.rules.specs.declared.sink.Sink.{Sink}
@@ -19,8 +17,3 @@ pub record Accepted (bytes : List ℕ) (s t : Sink) (many : ℕ) : Type 0 where
 abbrev pub Judges : List ℕ → Sink → Sink → Result ℕ Fault → Type 0
 Judges bytes s t (Ok n) = Accepted bytes s t n
 Judges bytes s t (Err f) = judged bytes (room_of s) ≡ refused f
-
--- the parts after: those of the rules, or blanks
-abbrev pub Fills : List ℕ → List Part → Result ℕ Fault → Type 0
-Fills bytes ps (Ok n) = Checked bytes ps n
-Fills bytes ps (Err f) = (judged bytes (length ps) ≡ refused f) × (ps ≡ replicate (length ps) Blank)

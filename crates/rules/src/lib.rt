@@ -10,4 +10,4 @@ mod read;
 mod sink;
 
 pub use checked::Rules;
-pub use checked::load::{Loaded, load};
+pub use checked::load::{Refused, load};

@@ -5,64 +5,61 @@ ghost use Rattle.grammar.specs.Parse as G;
 ghost use Rattle.grammar.specs.Whole as whole;
 ghost use Rattle.cursor.specs.Reading.{rest, text_of};
 ghost use Rattle.rules.specs.Held.{room_of};
-ghost use Rattle.rules.specs.Read.{Ends, Reads};
+ghost use Rattle.rules.specs.Read.{Ends, Reads, told_of};
 
-use super::lay::put_rule;
 use super::sink::Sink;
 use checks::rule_fault;
 use cursor::{Cursor, Stop};
 use faults::Fault;
 use parser::{begins_rule, rule};
 
-// The earliest fault of the rules, if any, and how many there are.
-#[derive(Clone, Copy)]
-pub struct Read {
-    pub fault: Option<Fault>,
-    pub rules: u16,
+// How many rules there are, unless a fault of them is known.
+fn told(fault: Option<Fault>, rules: u16) -> Result<u16, Fault>
+    ensures { result ≡ told_of fault rules }
+{
+    fault.map_or(Ok(rules), Err)
 }
 
-// The rules up to the first word that begins none.
-fn read_rules<'a, 'b>(
-    text: &[u8],
-    cursor: &mut Cursor<'a>,
-    sink: &mut Sink<'b>,
-) -> Result<Read, Stop>
-    requires { text_of cursor.old ≡ units text.now }
-    ensures reads { Ends (G.RuleSet (rest cursor.old)) (rest cursor.new) sink.old sink.new result }
-    ensures text { text_of cursor.new ≡ text_of cursor.old }
-    ensures room { room_of sink.new ≡ room_of sink.old }
-{
-    let mut fault = None;
-    for i in 0..32u16 {
-        if !begins_rule(cursor) {
-            return Ok(Read { fault, rules: i });
-        }
-        let r = rule(cursor)?;
-        fault = rule_fault(text, &r, fault);
-        put_rule(text, &r, sink);
-    }
-    if begins_rule(cursor) {
-        Err(Stop::Past)
-    } else {
-        Ok(Read { fault, rules: 32 })
-    }
-}
-
-// The rules of a whole text.
-pub fn read_text<'a>(text: &[u8], sink: &mut Sink<'a>) -> Result<Read, Fault>
-    requires { length text.now ≤ 32768 }
-    ensures room { room_of sink.new ≡ room_of sink.old }
-    ensures reads { Reads (whole.parse (units text.now)) sink.old sink.new result }
-{
-    let mut cursor = Cursor::new(text);
-    match read_rules(text, &mut cursor, sink) {
-        Ok(read) => {
-            if cursor.at_end() {
-                Ok(read)
-            } else {
-                Err(cursor.fault(Stop::Useless))
+impl<'a> Sink<'a> {
+    // The rules up to the first word that begins none: where reading stops, or else their number or their earliest fault.
+    fn read_rules(&mut self, cursor: &mut Cursor<'a>) -> Result<Result<u16, Fault>, Stop>
+        requires { text_of cursor.old ≡ units self.old.text.now }
+        ensures reads { Ends (G.RuleSet (rest cursor.old)) (rest cursor.new) self.old self.new result }
+        ensures text { text_of cursor.new ≡ text_of cursor.old }
+        ensures room { room_of self.new ≡ room_of self.old }
+    {
+        let mut fault = None;
+        for i in 0..32u16 {
+            if !begins_rule(cursor) {
+                return Ok(told(fault, i));
             }
+            let r = rule(cursor)?;
+            fault = rule_fault(self.text, &r, fault);
+            self.put_rule(&r);
         }
-        Err(stop) => Err(cursor.fault(stop)),
+        if begins_rule(cursor) {
+            Err(Stop::Past)
+        } else {
+            Ok(told(fault, 32))
+        }
+    }
+
+    // The rules of the whole text: their number, or the fault at which reading stops, or else their earliest fault.
+    pub fn read_text(&mut self) -> Result<u16, Fault>
+        requires { length self.old.text.now ≤ 32768 }
+        ensures room { room_of self.new ≡ room_of self.old }
+        ensures reads { Reads (whole.parse (units self.old.text.now)) self.old self.new result }
+    {
+        let mut cursor = Cursor::new(self.text);
+        match self.read_rules(&mut cursor) {
+            Ok(rules) => {
+                if cursor.at_end() {
+                    rules
+                } else {
+                    Err(cursor.fault(Stop::Useless))
+                }
+            }
+            Err(stop) => Err(cursor.fault(stop)),
+        }
     }
 }

@@ -1,13 +1,9 @@
-use Rattle.std.proofs.Common.{true, sym, refl}
-use Rattle.rules.proofs.Filling.{put_room, put_full}
+use Rattle.std.proofs.Common.{refl}
+use Rattle.rules.proofs.Filling.{put_told}
 use Rattle.rules.proofs.sink.Sink.put.Goals as goal
 
-pub returns-then-not-push : goal.returns-then-not-push
-returns-then-not-push c =
-    let e = c.if-not-push.ensures in
-    put_full c.args.self.now (record { list = c.push.new.self; short = true }) c.args.part e.space (sym e.full) e.after e.slots refl
-
-pub returns-else-not-push : goal.returns-else-not-push
-returns-else-not-push c =
-    let e = c.if-not-push.ensures in
-    put_room c.args.self.now (record { list = c.push.new.self; short = c.args.self.now.short }) c.args.part e.space (sym e.full) e.after e.slots refl
+pub returns : goal.returns
+returns c =
+    let e = c.push-self.ensures in
+    let r = c.push-self.result in
+    put_told c.args.self.now (record { text = c.args.self.now.text; list = c.push-self.new.self; last = r }) c.args.part refl e.space r refl e.variant e.after e.slots e.refused
