@@ -39,13 +39,21 @@ impl<'a, S: Source> Source for &'a S {
 pub struct Claims<'s, S: Source> {
     source: &'s S,
     next: usize,
+    end: usize,
+    ghost ends: { end ≡ length (S.Source.list source.now) },
+    ghost few: { end ≤ 512 },
 }
 
 impl<'s, S: Source> Claims<'s, S> {
     pub fn of(source: &'s S) -> Claims<'s, S>
-        ensures { drop result.next (S.Source.list result.source.now) ≡ S.Source.list source.now }
+        ensures all { drop result.next (S.Source.list result.source.now) ≡ S.Source.list source.now }
+        ensures few { length (S.Source.list source.now) ≤ 512 }
     {
-        Claims { source, next: 0 }
+        Claims {
+            source,
+            next: 0,
+            end: source.count(),
+        }
     }
 }
 
@@ -58,7 +66,7 @@ impl<'s, S: Source> Iterator for Claims<'s, S> {
 
     fn next(&mut self) -> Option<Claim> {
         let n = self.next;
-        if n >= self.source.count() {
+        if n >= self.end {
             return None;
         }
         self.next = n + 1;

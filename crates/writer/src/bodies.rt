@@ -11,7 +11,6 @@ use claims::{Claims, Source, Texts};
 
 // The bytes that the claims take; none where one of them cannot be carried.
 pub fn body_size<S: Source>(source: &S, texts: &Texts) -> Option<usize>
-    requires few { length (S.Source.list source.now) ≤ 512 }
     ensures { Measured texts.now.rules.now texts.now.packet.now (S.Source.list source.now) result }
 {
     let mut sum = 0;

@@ -23,11 +23,10 @@ fn write_head(out: &mut [u8], n: usize)
 pub fn write<S: Source>(source: &S, texts: &Texts, out: &mut [u8]) -> Result<usize, Fault>
     ensures { Wrote texts.now.rules.now texts.now.packet.now (S.Source.list source.now) out.old out.new result }
 {
-    let count = source.count();
     let Some(size) = body_size(source, texts) else {
         return Err(Fault::at(Cause::UncarriableClaim, 0));
     };
-    if count > 256 || size > 32765 {
+    if source.count() > 256 || size > 32765 {
         return Err(Fault::at(Cause::PacketTooLarge, 0));
     }
     if out.len() < 3 + size {

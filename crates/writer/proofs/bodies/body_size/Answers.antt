@@ -11,7 +11,7 @@ overflow_add-sum g c =
     let ys = c.loop-claim.yielded in
     let few = ap length c.loop-claim.invariant.2 in
     let parts = length-append ys (drop c.loop-claim.claim-iterator.next (g.S.Source.list c.loop-claim.claim-iterator.source.now)) in
-    let done : length ys ≤ 512 = omega (arith, c.requires) in
+    let done : length ys ≤ 512 = omega (arith, c.of-claim-items.ensures.few) in
     omega (arith, c.loop-claim.invariant.5, c.claim_size-sum.ensures.bound)
 
 pub returns-then-not-is_writable : goal.returns-then-not-is_writable
