@@ -1,4 +1,3 @@
 pub mod Expecting
 pub mod Many
-pub mod Items
 pub mod Choosing

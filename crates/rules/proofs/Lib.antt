@@ -2,3 +2,4 @@ pub mod Filling
 pub mod Each
 pub mod Reading
 pub mod Wholly
+pub mod Short

@@ -1,5 +1,5 @@
 use Rattle.std.proofs.Common.{◌≡◌, refl, sym, ap, ◌∙◌, arith}
-use Rattle.cursor.proofs.Short.{short_units}
+use Rattle.rules.proofs.Short.{short_units}
 use Rattle.cursor.specs.Reading.{rest, text_of}
 use Rattle.grammar.specs.Whole.{parse}
 use Rattle.rules.specs.Judged.{derived}
