@@ -4,6 +4,7 @@ use super::shown::{granted, numbered, refused};
 use claims::{Claim, One, Source};
 use faults::{Cause, Fault};
 use packet::check as checked_packet;
+use std::test::Fail;
 use store::{Overlay, Store, Table, append_read_cut};
 
 // One who holds a store by value, as whoever works over any store does.
@@ -19,16 +20,16 @@ fn round<S: Store + Drop>(store: S) -> Result<Option<Claim>, Fault> {
 }
 
 #[test]
-fn over_a_packet_and_one_claim(rt: HostRuntime) {
+fn over_a_packet_and_one_claim(rt: HostRuntime) -> Result<(), Fail> {
     let bytes = b"\x01\x00\x13\x01\x00t\x07\x00b\x00o\x00o\x00l\x00e\x00a\x00n\x01";
-    let checked = checked_packet(bytes);
-    let o = Overlay::over(checked.packet);
+    let o = Overlay::over(checked_packet(bytes)?);
     assert_eq!(rt; o.floor(), 1);
     assert_eq!(rt; round(o), Ok(Some(numbered(7))));
     assert_eq!(rt;
         round(Overlay::over(One::new(numbered(1)))),
         Ok(Some(numbered(7)))
     );
+    Ok(())
 }
 
 #[test]
