@@ -1,5 +1,5 @@
 use Rattle.std.proofs.Common.{◌≡◌, ℕ, ◌≤◌, true, List, ◌++◌, length, take, drop, is_ok, IfOk, Some, None, Ok, Err, Option, Result, refl, ap, ◌∙◌, arith}
-use Rattle.std.proofs.lemmas.List.{drop_all, append-nil}
+use Rattle.std.proofs.lemmas.List.{drop_all, append-nil, take_at}
 use Rattle.std.proofs.lemmas.Bool.Decides.{nat_tests}
 use Rattle.claims.specs.declared.records.Claim.{Claim}
 use Rattle.faults.specs.declared.Fault.{Fault}
@@ -35,3 +35,7 @@ module _ {rules packet old new : List ℕ} {cs : List Claim} where
   pub wrote_accepted : (r : Result ℕ Fault) → Wrote rules packet cs old new r → IfOk r (λ n. is_ok (judge (take n new)) ≡ true)
   wrote_accepted (Ok n) w = accepted w.claims n new (take n new) w.reread refl
   wrote_accepted (Err f) w = tt
+
+-- the front of a buffer that was lent whole
+pub accepted_front : (n len : ℕ) (out rest new : List ℕ) → new ≡ take n (take len (out ++ rest)) → length out ≡ len → is_ok (judge (take n out)) ≡ true → is_ok (judge new) ≡ true
+accepted_front n len out rest new e h k = ap (λ t. is_ok (judge t)) (e ∙ ap (take n) (take_at out rest len h)) ∙ k
