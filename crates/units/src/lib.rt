@@ -24,7 +24,7 @@ impl<'a> Units<'a> {
     }
 }
 
-impl<'a> Iterator for Units<'a> {
+impl Iterator for Units<'_> {
     type Item = u16;
 
     ghost next_gives = { YieldsFirst (λ s. units s.rest.now) };
