@@ -93,7 +93,7 @@ impl<'a> Bytes<'a> {
     }
 }
 
-impl<'a> Iterator for Walk<'a> {
+impl Iterator for Walk<'_> {
     type Item = Result<Claim, Fault>;
 
     ghost next_gives = { YieldsFirst (λ w. turns w.left w.at (drop w.at w.packet.bytes.now)) };

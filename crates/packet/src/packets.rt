@@ -47,7 +47,7 @@ pub fn check(bytes: &[u8]) -> Result<Packet<'_>, Fault>
     Ok(Packet { bytes, count })
 }
 
-impl<'a> Source for Packet<'a> {
+impl Source for Packet<'_> {
     ghost list = { λ p. records_in p.bytes.now };
 
     fn count(&self) -> usize {
