@@ -22,7 +22,7 @@ pub trait Source {
 }
 
 // A source that is only lent: whoever stands on it leaves it with its owner.
-impl<'a, S: Source> Source for &'a S {
+impl<S: Source> Source for &S {
     ghost list = { λ s. S.Source.list s.now };
 
     fn count(&self) -> usize {
@@ -57,7 +57,7 @@ impl<'s, S: Source> Claims<'s, S> {
     }
 }
 
-impl<'s, S: Source> Iterator for Claims<'s, S> {
+impl<S: Source> Iterator for Claims<'_, S> {
     type Item = Claim;
 
     ghost next_gives = { YieldsFirst (λ c. drop c.next (S.Source.list c.source.now)) };
@@ -117,7 +117,7 @@ impl<'a> Listed<'a> {
     }
 }
 
-impl<'a> Source for Listed<'a> {
+impl Source for Listed<'_> {
     ghost list = { λ s. s.claims.now };
 
     fn count(&self) -> usize {

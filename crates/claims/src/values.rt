@@ -53,6 +53,7 @@ impl ValueType {
     }
 }
 
+// By hand: `#[default]` stands only at a variant without a field, and a value has none.
 impl Default for Value {
     fn default() -> Value
         ensures { result ≡ Boolean false }

@@ -18,7 +18,7 @@ use Rattle.claims.specs.Meaning.{Value, uint64, int64, string, boolean, type_of}
 use Rattle.packet.specs.Carriable.{Fits}
 use Rattle.packet.specs.Format.{bytes_before, encode_text, encode_value, Bytes}
 use Rattle.packet.specs.Judge.{need, text_in, size_of_text, value_in, size_of_value, well_formed_value}
-use Rattle.units.proofs.Texts.{length-units}
+use Rattle.units.proofs.Texts.{length-units, length-unit_bytes, units_again}
 
 -- numbers
 pub number_bytes : (k n : ℕ) (more : List ℕ) → n < 256 ^ k → number_from_digits_after 256 0 (bytes_before k n more) ≡ number_from_digits_after 256 n more
@@ -54,16 +54,6 @@ eight_lt bs h len =
     omega arith
 
 -- texts
-pub units_bytes : (us : List ℕ) → units (unit_bytes us) ≡ us
-units_bytes [] = refl
-units_bytes (u ∷ us) =
-    let q : u / 256 * 256 + u % 256 ≡ u = omega arith in
-    ap (λ v. v ∷ units (unit_bytes us)) q ∙ ap (λ t. u ∷ t) (units_bytes us)
-
-pub length-unit_bytes : (us : List ℕ) → length (unit_bytes us) ≡ 2 * length us
-length-unit_bytes [] = refl
-length-unit_bytes (u ∷ us) = let r = length-unit_bytes us in omega arith
-
 pub bytes_units : (bs : List ℕ) (n : ℕ) → Bytes bs → length bs ≡ 2 * n → unit_bytes (units bs) ≡ bs
 bytes_units [] n h e = refl
 bytes_units (x ∷ []) n h e = absurd (omega arith)
@@ -89,7 +79,7 @@ text_in-encode us rest =
     let room : 2 * length us ≤ length (unit_bytes us ++ rest) = omega arith in
     cond-true (leb (2 * length us) (length (unit_bytes us ++ rest))) _ _ (le-leb _ _ room)
     ∙ ap (λ z. Some (units z)) (take_at (unit_bytes us) rest (2 * length us) l)
-    ∙ ap Some (units_bytes us)
+    ∙ ap Some (units_again us)
 
 pub record TextFront (bs us : List ℕ) : Type 0 where
   pub front : bs ≡ encode_text us ++ drop (size_of_text us) bs

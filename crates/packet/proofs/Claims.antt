@@ -58,11 +58,6 @@ one_claim_in-encode c rest h =
     (ap (value_in (type_of v)) past_word ∙ value_in-encode v rest h.value_fits)
     ∙ cond-true (well_formed_claim c) (Ok c) (Err IllFormedText) (sound_claim c h)
 
-pub encode_injective : (c d : Claim) → Carriable c → Carriable d → encode c ≡ encode d → c ≡ d
-encode_injective c d h i e =
-    let is : ◌≡◌ {A = Result Claim Cause} (Ok c) (Ok d) = sym (one_claim_in-encode c [] h) ∙ ap (λ bs. one_claim_in (bs ++ [])) e ∙ one_claim_in-encode d [] i in
-    cc
-
 -- a claim that is read was written so
 pub record ClaimFront (bs : List ℕ) (c : Claim) : Type 0 where
   pub front : bs ≡ encode c ++ drop (size c) bs

@@ -1,9 +1,8 @@
 -- The records of a packet's claims stand for the claims.
-use Rattle.std.proofs.Common.{◌≡◌, ℕ, zero, suc, ◌+◌, ◌*◌, ◌≤◌, leb, List, [], ◌∷◌, ◌++◌, length, take, drop, Some, None, sym, refl, ap, ◌∙◌, append_assoc, add-zero, arith, length-append}
+use Rattle.std.proofs.Common.{◌≡◌, ℕ, suc, ◌+◌, ◌*◌, ◌≤◌, leb, List, [], ◌∷◌, ◌++◌, length, take, drop, Some, None, sym, refl, ap, ◌∙◌, append_assoc, arith, length-append}
 use Rattle.std.proofs.lemmas.List.{take_at, drop_at, drop-drop, length-drop}
 use Rattle.std.proofs.lemmas.Bool.{cond-true, le-leb}
 use Rattle.std.specs.Option.{option_map}
-use Rattle.std.specs.List.{slice_get}
 use Rattle.claims.specs.Claims.{onward, text_of, value_of, claim_of, claims_of}
 use Rattle.claims.specs.Meaning as meaning
 use Rattle.claims.specs.Meaning.{uint64, int64, string, boolean}
@@ -17,8 +16,9 @@ use Rattle.packet.specs.Format.{encode_text, encode_value, encode, body, packet}
 use Rattle.packet.specs.Held.{held_text, held_value, held_claim, after_text, Lies, TextLies, ClaimLies}
 use Rattle.packet.specs.Judge.{size_of_text, size}
 use Rattle.packet.specs.Records.{text_record, value_record, claim_record, records_from}
-use Rattle.packet.proofs.Bytes.{units_bytes, length-unit_bytes, length-encode_text}
+use Rattle.packet.proofs.Bytes.{length-encode_text}
 use Rattle.packet.proofs.Claims.{length-encode}
+use Rattle.units.proofs.Texts.{length-unit_bytes, units_again}
 use Rattle.units.specs.Units.{units, unit_bytes}
 
 -- a record that lies at a place is the record of what it stands for there
@@ -53,16 +53,7 @@ claim_there bs at c h =
     ∙ ap (λ x. record { typ = it; word = x; value = c.value }) iw
     ∙ ap (λ x. record { typ = it; word = text_record (at + size_of_text (held_text bs c.typ)) (held_text bs c.word); value = x }) iv
 
--- claim n, at its place
-pub slice_get-records : (at : ℕ) (cs : List meaning.Claim) (n : ℕ) → slice_get (records_from at cs) n ≡ option_map (claim_record (at + length (body (take n cs)))) (slice_get cs n)
-slice_get-records at [] n = refl
-slice_get-records at (c ∷ cs) zero = ap (λ p. Some (claim_record p c)) (sym (add-zero at))
-slice_get-records at (c ∷ cs) (suc n) =
-    let l = length-append (encode c) (body (take n cs)) in
-    let k = length-encode c in
-    let e : at + size c + length (body (take n cs)) ≡ at + length (encode c ++ body (take n cs)) = omega arith in
-    slice_get-records (at + size c) cs n ∙ ap (λ p. option_map (claim_record p) (slice_get cs n)) e
-
+-- as many records as claims
 pub length-records : (at : ℕ) (cs : List meaning.Claim) → length (records_from at cs) ≡ length cs
 length-records at [] = refl
 length-records at (c ∷ cs) = ap suc (length-records (at + size c) cs)
@@ -80,7 +71,7 @@ module _ (rules bs : List ℕ) where
       ap (option_map units) (cond-true (leb (at + 1 + 2 * length us) (length bs)) (Some (take (2 * length us) (drop (at + 1) bs))) None (le-leb _ _ room))
       ∙ ap (λ z. Some (units (take (2 * length us) z))) one
       ∙ ap (λ z. Some (units z)) (take_at (unit_bytes us) rest (2 * length us) (length-unit_bytes us))
-      ∙ ap Some (units_bytes us)
+      ∙ ap Some (units_again us)
 
   value_stands : (at : ℕ) (v : meaning.Value) (rest : List ℕ) → drop at bs ≡ encode_value v ++ rest → value_of rules bs (value_record at v) ≡ Some v
   value_stands at (uint64 n) rest e = refl

@@ -1,72 +1,27 @@
--- One turn of the walk over the claims.
+-- The walk over the claims, item by item.
 use Rattle.faults.specs.declared.Cause.{Cause}
-use Rattle.std.proofs.Common.{◌≡◌, ℕ, zero, suc, ◌+◌, ◌-◌, ◌<◌, ◌≤◌, Bool, true, false, cond, not, ◌||◌, eqb, ltb, List, [], ◌∷◌, ◌++◌, length, get_or, take, drop, is_ok, Some, None, Ok, Err, Result, sym, refl, ap, ◌∙◌, zero-add, arith, length-append}
-use mathlib.Core.List.{nil≢cons, head-eq_of_cons-eq}
+use Rattle.std.proofs.Common.{◌≡◌, ℕ, zero, suc, ◌+◌, ◌-◌, ◌<◌, ◌≤◌, Bool, true, false, cond, not, ◌||◌, eqb, ltb, List, [], ◌∷◌, map, length, get_or, drop, is_ok, Some, None, Option, Ok, Err, Result, sym, refl, ap, ◌∙◌, add-zero, arith}
 use Rattle.std.specs.List.{slice_get}
+use Rattle.std.proofs.lemmas.Iterator.Adapters.{option_map_id}
+use Rattle.std.proofs.lemmas.Option.{slice_get-map}
+use Rattle.std.specs.Option.{option_map}
+use Rattle.std.specs.Result.{result_ok}
+use Rattle.std.specs.Iterator.{MakesProgress, item_count}
+use Rattle.std.specs.Bool.{⊤}
 use Rattle.std.proofs.lemmas.Bool.{ltb-false, eqb-true}
-use Rattle.std.proofs.lemmas.List.{drop_all, drop_more, drop-drop, length-drop, flat_map_more}
+use Rattle.std.proofs.lemmas.List.{drop_all, drop_more, drop-drop, length-drop}
 use Rattle.faults.specs.declared.Cause.TheVariants.{NotAPacket, LengthMismatch, TooManyClaims}
 use Rattle.faults.specs.declared.Fault.{Fault}
 use Rattle.claims.specs.Meaning.{Claim}
-use Rattle.packet.specs.Format.{encode, body}
-use Rattle.packet.proofs.Claims.{length-encode}
+use Rattle.claims.specs.declared.records.Claim.{Claim as Record}
+use Rattle.packet.specs.Records.{claim_record, records_from, records_in}
+use Rattle.packet.specs.Turns.{turn, turns}
 use Rattle.packet.specs.Judge.{size, one_claim_in, Verdict, followed, after, walk, counted, declared_size, judge, claims_in}
 use Rattle.faults.specs.At.{fault_at}
-
--- where claim n begins
-abbrev pub place_of : List Claim → ℕ → ℕ
-place_of cs n = 3 + length (body (take n cs))
-
-walk_nil : (k at : ℕ) → walk k at [] ≡ Ok []
-walk_nil zero at = refl
-walk_nil (suc k) at = refl
-
-walk_cons : (k at : ℕ) (xs : List ℕ) → 0 < length xs → walk (suc k) at xs ≡ after (one_claim_in xs) at (λ c. followed c (walk k (at + size c) (drop (size c) xs)))
-walk_cons k at [] h = absurd (omega arith)
-walk_cons k at (x ∷ xs) h = refl
 
 pub counted_followed : (n : ℕ) (c : Claim) (v : Verdict) → counted n (followed c v) ≡ counted (n + 1) v
 counted_followed n c (Ok cs) = let e : n + suc (length cs) ≡ n + 1 + length cs = omega arith in ap (λ m. Ok m) e
 counted_followed n c (Err f) = refl
-
-module _ (bs : List ℕ) (at : ℕ) where
-  pub walk_ends : (k : ℕ) → length bs ≤ at → walk k at (drop at bs) ≡ Ok []
-  walk_ends k h = ap (walk k at) (drop_all at bs h) ∙ walk_nil k at
-
-  pub walk_full : at < length bs → walk 0 at (drop at bs) ≡ Err (fault_at TooManyClaims at)
-  walk_full h = ap (walk 0 at) (drop_more bs at 0 h)
-
-  pub walk_fails : (k : ℕ) (n : Cause) → at < length bs → one_claim_in (drop at bs) ≡ Err n → walk (suc k) at (drop at bs) ≡ Err (fault_at n at)
-  walk_fails k n h e =
-      let l = length-drop at bs in
-      walk_cons k at (drop at bs) (omega arith) ∙ ap (λ r. after r at (λ c. followed c (walk k (at + size c) (drop (size c) (drop at bs))))) e
-
-  pub walk_goes : (k q : ℕ) (c : Claim) → at < length bs → one_claim_in (drop at bs) ≡ Ok c → q ≡ at + size c → walk (suc k) at (drop at bs) ≡ followed c (walk k q (drop q bs))
-  walk_goes k q c h e iq =
-      let l = length-drop at bs in
-      walk_cons k at (drop at bs) (omega arith) ∙ ap (λ r. after r at (λ c. followed c (walk k (at + size c) (drop (size c) (drop at bs))))) e
-      ∙ ap (λ z. followed c (walk k (at + size c) z)) (drop-drop (size c) at bs)
-      ∙ ap (λ n. followed c (walk k n (drop n bs))) (sym iq)
-
-  pub check_ends : (n : ℕ) → length bs ≤ at → counted n (walk (256 - n) at (drop at bs)) ≡ Ok n
-  check_ends n h = let z : n + 0 ≡ n = omega arith in ap (counted n) (walk_ends (256 - n) h) ∙ ap (λ m. Ok m) z
-
-  -- with n claims before this place
-  module _ (n : ℕ) (h : at < length bs) where
-    pub check_full : n ≡ 256 → counted n (walk (256 - n) at (drop at bs)) ≡ Err (fault_at TooManyClaims at)
-    check_full e = let z : 256 - n ≡ 0 = omega arith in ap (λ k. counted n (walk k at (drop at bs))) z ∙ ap (counted n) (walk_full h)
-
-    module _ (lt : n < 256) where
-      more : 256 - n ≡ suc (256 - (n + 1))
-      more = omega arith
-
-      pub check_fails : (m : Cause) → one_claim_in (drop at bs) ≡ Err m → counted n (walk (256 - n) at (drop at bs)) ≡ Err (fault_at m at)
-      check_fails m e = ap (λ k. counted n (walk k at (drop at bs))) more ∙ ap (counted n) (walk_fails (256 - (n + 1)) m h e)
-
-      pub check_goes : (q : ℕ) (c : Claim) → one_claim_in (drop at bs) ≡ Ok c → q ≡ at + size c
-          → counted (n + 1) (walk (256 - (n + 1)) q (drop q bs)) ≡ counted n (walk (256 - n) at (drop at bs))
-      check_goes q c e iq =
-          sym (ap (λ k. counted n (walk k at (drop at bs))) more ∙ ap (counted n) (walk_goes (256 - (n + 1)) q c h e iq) ∙ counted_followed n c (walk (256 - (n + 1)) q (drop q bs)))
 
 passed : (t : Bool) (f : Fault) (v : Verdict) → is_ok (cond t (Err f) v) ≡ true → (t ≡ false) × (cond t (Err f) v ≡ v)
 passed true f v e = let z : ◌≡◌ {A = ℕ} 0 1 = cc in absurd (omega arith)
@@ -89,95 +44,120 @@ judge_fine bs e =
     let says = eqb-true (declared_size bs) (length bs - 3) s.1 in
     (omega arith, a.1 ∙ b.1)
 
--- lists from a place on
-nth_drop : {X : Type 0} (j : ℕ) (xs : List X) (i : ℕ) → slice_get xs (j + i) ≡ slice_get (drop j xs) i
-nth_drop zero xs i = ap (slice_get xs) (zero-add i)
-nth_drop (suc j) [] i = let e : suc j + i ≡ suc (j + i) = omega arith in ap (slice_get []) e
-nth_drop (suc j) (x ∷ xs) i = let e : suc j + i ≡ suc (j + i) = omega arith in ap (slice_get (x ∷ xs)) e ∙ nth_drop j xs i
-
-take_next : {X : Type 0} (j : ℕ) (xs : List X) (y : X) (ys : List X) → drop j xs ≡ y ∷ ys → take (suc j) xs ≡ take j xs ++ y ∷ []
-take_next zero [] y ys e = absurd (nil≢cons e)
-take_next zero (x ∷ xs) y ys e = ap (λ z. z ∷ []) (head-eq_of_cons-eq e)
-take_next (suc j) [] y ys e = absurd (nil≢cons e)
-take_next (suc j) (x ∷ xs) y ys e = ap (λ z. x ∷ z) (take_next j xs y ys e)
-
--- j claims of cs lie before the place `at`, and the others behind it; claim n of cs has `left` others before it there
-pub record Left (bs : List ℕ) (cs : List Claim) (at left n : ℕ) : Type 0 where
-  pub k : ℕ
-  pub j : ℕ
-  pub sum : j + left ≡ n
-  pub behind : walk k at (drop at bs) ≡ Ok (drop j cs)
-  pub here : at ≡ place_of cs j
-
 fine_claims : (v : Verdict) → is_ok v ≡ true → v ≡ Ok (claims_in v)
 fine_claims (Ok cs) e = refl
 fine_claims (Err f) e = let z : ◌≡◌ {A = ℕ} 0 1 = cc in absurd (omega arith)
-
-pub left_starts : (bs : List ℕ) (n : ℕ) → is_ok (judge bs) ≡ true → Left bs (claims_in (judge bs)) 3 n n
-left_starts bs n e = record { k = 256; j = 0; sum = zero-add n; behind = sym (judge_fine bs e).1 ∙ fine_claims (judge bs) e; here = refl }
 
 followed_is : (c : Claim) (v : Verdict) (cs : List Claim) → followed c v ≡ Ok cs → (ds : List Claim) × (v ≡ Ok ds) × (cs ≡ c ∷ ds)
 followed_is c (Ok ds) cs e = let is : ◌≡◌ {A = List Claim} cs (c ∷ ds) = cc in (ds, refl, is)
 followed_is c (Err f) cs e = let z : ◌≡◌ {A = ℕ} 0 1 = cc in absurd (omega arith)
 
-not_full : (bs : List ℕ) (at k : ℕ) (cs : List Claim) → at < length bs → walk k at (drop at bs) ≡ Ok cs → (m : ℕ) × (k ≡ suc m)
-not_full bs at zero cs h e =
-    let f = walk_full bs at h in
-    let z : ◌≡◌ {A = ℕ} 0 1 = cc in absurd (omega arith)
-not_full bs at (suc m) cs h e = (m, refl)
+-- the items of the walk from a place on
+turns_nil : (k at : ℕ) → turns k at [] ≡ []
+turns_nil zero at = refl
+turns_nil (suc k) at = refl
 
-module _ (bs : List ℕ) (cs : List Claim) (at left n : ℕ) (l : Left bs cs at left n) where
-  seen : slice_get cs n ≡ slice_get (drop l.j cs) left
-  seen = ap (slice_get cs) (sym l.sum) ∙ nth_drop l.j cs left
+turns_cons : (k at : ℕ) (xs : List ℕ) → 0 < length xs → turns (suc k) at xs ≡ turn (one_claim_in xs) at (λ c. turns k (at + size c) (drop (size c) xs))
+turns_cons k at [] h = absurd (omega arith)
+turns_cons k at (x ∷ xs) h = refl
 
-  pub left_ends : length bs ≤ at → None ≡ slice_get cs n
-  left_ends h =
-      let e : ◌≡◌ {A = Verdict} (Ok []) (Ok (drop l.j cs)) = sym (walk_ends bs at l.k h) ∙ l.behind in
-      let d : [] ≡ drop l.j cs = cc in
-      ap (λ z. slice_get z left) d ∙ sym seen
+module _ (bs : List ℕ) (at : ℕ) where
+  pub turns_end : (k : ℕ) → length bs ≤ at → turns k at (drop at bs) ≡ []
+  turns_end k h = ap (turns k at) (drop_all at bs h) ∙ turns_nil k at
 
-  module _ (h : at < length bs) where
-    room : (m : ℕ) × (l.k ≡ suc m)
-    room = not_full bs at l.k (drop l.j cs) h l.behind
+  pub turns_full : at < length bs → turns 0 at (drop at bs) ≡ Err (fault_at TooManyClaims at) ∷ []
+  turns_full h = ap (turns 0 at) (drop_more bs at 0 h)
 
-    again : walk (suc room.0) at (drop at bs) ≡ Ok (drop l.j cs)
-    again = ap (λ k. walk k at (drop at bs)) (sym room.1) ∙ l.behind
+  module _ (k m : ℕ) (h : at < length bs) (e : m ≡ suc k) where
+    turns_here : turns m at (drop at bs) ≡ turn (one_claim_in (drop at bs)) at (λ c. turns k (at + size c) (drop (size c) (drop at bs)))
+    turns_here = let l = length-drop at bs in ap (λ j. turns j at (drop at bs)) e ∙ turns_cons k at (drop at bs) (omega arith)
 
-    pub left_fails : {X : Type 0} (e : Cause) → one_claim_in (drop at bs) ≡ Err e → X
-    left_fails e is =
-        let f = walk_fails bs at room.0 e h is in
-        let g = again in
-        let z : ◌≡◌ {A = ℕ} 0 1 = cc in absurd (omega arith)
+    pub turns_fail : (n : Cause) → one_claim_in (drop at bs) ≡ Err n → turns m at (drop at bs) ≡ Err (fault_at n at) ∷ []
+    turns_fail n is = turns_here ∙ ap (λ r. turn r at (λ c. turns k (at + size c) (drop (size c) (drop at bs)))) is
 
-    module _ (q : ℕ) (c : Claim) (is : one_claim_in (drop at bs) ≡ Ok c) (iq : q ≡ at + size c) where
-      split : (ds : List Claim) × (walk room.0 q (drop q bs) ≡ Ok ds) × (drop l.j cs ≡ c ∷ ds)
-      split = followed_is c (walk room.0 q (drop q bs)) (drop l.j cs) (sym (walk_goes bs at room.0 q c h is iq) ∙ again)
+    pub turns_go : (q : ℕ) (c : Claim) → one_claim_in (drop at bs) ≡ Ok c → q ≡ at + size c → turns m at (drop at bs) ≡ Ok (claim_record at c) ∷ turns k q (drop q bs)
+    turns_go q c is iq =
+        turns_here ∙ ap (λ r. turn r at (λ c. turns k (at + size c) (drop (size c) (drop at bs)))) is
+        ∙ ap (λ z. Ok (claim_record at c) ∷ turns k (at + size c) z) (drop-drop (size c) at bs)
+        ∙ ap (λ n. Ok (claim_record at c) ∷ turns k n (drop n bs)) (sym iq)
 
-      pub left_here : left ≡ 0 → (Some c ≡ slice_get cs n) × (at ≡ place_of cs n)
-      left_here z =
-          let j : l.j ≡ n = omega (arith, l.sum) in
-          (ap (slice_get (c ∷ split.0)) (sym z) ∙ ap (λ xs. slice_get xs left) (sym split.2) ∙ sym seen, l.here ∙ ap (place_of cs) j)
+few_turn : (k at : ℕ) (bs : List ℕ) (r : Result Claim Cause) → ((c : Claim) → length (turns k (at + size c) (drop (size c) bs)) ≤ k + 1)
+    → length (turn r at (λ c. turns k (at + size c) (drop (size c) bs))) ≤ suc k + 1
+few_turn k at bs (Ok c) h = let l = h c in omega arith
+few_turn k at bs (Err n) h = omega arith
 
-      next : place_of cs (suc l.j) ≡ place_of cs l.j + size c
-      next =
-          let e = ap body (take_next l.j cs c split.0 split.2) ∙ sym (flat_map_more encode [] (take l.j cs) c) in
-          let n = ap length e in
-          let a = length-append (body (take l.j cs)) (encode c) in
-          let s = length-encode c in
-          omega arith
+pub few_turns : (k at : ℕ) (bs : List ℕ) → length (turns k at bs) ≤ k + 1
+few_turns zero at [] = omega arith
+few_turns zero at (b ∷ bs) = omega arith
+few_turns (suc k) at [] = omega arith
+few_turns (suc k) at (b ∷ bs) = few_turn k at (b ∷ bs) (one_claim_in (b ∷ bs)) (λ c. few_turns k (at + size c) (drop (size c) (b ∷ bs)))
 
-      pub left_goes : (left ≡ 0 → ⊥) → Left bs cs q (left - 1) n
-      left_goes nz =
-          let s = l.sum in
-          let p = l.here in
-          let i : suc l.j ≡ l.j + 1 = omega arith in
-          record {
-            k = room.0;
-            j = suc l.j;
-            sum = omega arith;
-            behind = split.1 ∙ ap (λ z. Ok (drop 1 z)) (sym split.2) ∙ ap Ok (drop-drop 1 l.j cs) ∙ ap (λ m. Ok (drop m cs)) (sym i);
-            here = omega (arith, next);
-          }
+-- counting items up to a fault, with those n that were before
+abbrev pub tally : {X : Type 0} → ℕ → List (Result X Fault) → Result ℕ Fault
+tally n [] = Ok n
+tally n (Ok c ∷ xs) = tally (n + 1) xs
+tally n (Err f ∷ xs) = Err f
+
+tally_turn : (n k at : ℕ) (bs : List ℕ) (r : Result Claim Cause)
+    → ((c : Claim) → tally (n + 1) (turns k (at + size c) (drop (size c) bs)) ≡ counted (n + 1) (walk k (at + size c) (drop (size c) bs)))
+    → tally n (turn r at (λ c. turns k (at + size c) (drop (size c) bs))) ≡ counted n (after r at (λ c. followed c (walk k (at + size c) (drop (size c) bs))))
+tally_turn n k at bs (Ok c) h = h c ∙ sym (counted_followed n c (walk k (at + size c) (drop (size c) bs)))
+tally_turn n k at bs (Err m) h = refl
+
+-- the items count as the walk does
+pub tally_turns : (n k at : ℕ) (bs : List ℕ) → tally n (turns k at bs) ≡ counted n (walk k at bs)
+tally_turns n zero at [] = ap Ok (sym (add-zero n))
+tally_turns n zero at (b ∷ bs) = refl
+tally_turns n (suc k) at [] = ap Ok (sym (add-zero n))
+tally_turns n (suc k) at (b ∷ bs) = tally_turn n k at (b ∷ bs) (one_claim_in (b ∷ bs)) (λ c. tally_turns (n + 1) k (at + size c) (drop (size c) (b ∷ bs)))
+
+fine_turn : (k at : ℕ) (bs : List ℕ) (r : Result Claim Cause) (cs : List Claim)
+    → ((c : Claim) (ds : List Claim) → walk k (at + size c) (drop (size c) bs) ≡ Ok ds → turns k (at + size c) (drop (size c) bs) ≡ map Ok (records_from (at + size c) ds))
+    → after r at (λ c. followed c (walk k (at + size c) (drop (size c) bs))) ≡ Ok cs
+    → turn r at (λ c. turns k (at + size c) (drop (size c) bs)) ≡ map Ok (records_from at cs)
+fine_turn k at bs (Ok c) cs h e =
+    let s = followed_is c (walk k (at + size c) (drop (size c) bs)) cs e in
+    ap (λ z. Ok (claim_record at c) ∷ z) (h c s.0 s.1) ∙ ap (λ z. map Ok (records_from at z)) (sym s.2)
+fine_turn k at bs (Err m) cs h e = let z : ◌≡◌ {A = ℕ} 0 1 = cc in absurd (omega arith)
+
+no_more : (at : ℕ) (cs : List Claim) → ◌≡◌ {A = Verdict} (Ok []) (Ok cs) → [] ≡ map {B = Result Record Fault} Ok (records_from at cs)
+no_more at cs e = let is : [] ≡ cs = cc in ap (λ z. map Ok (records_from at z)) is
+
+-- where there is no fault, the items are the records
+fine_turns : (k at : ℕ) (bs : List ℕ) (cs : List Claim) → walk k at bs ≡ Ok cs → turns k at bs ≡ map Ok (records_from at cs)
+fine_turns zero at [] cs e = no_more at cs e
+fine_turns zero at (b ∷ bs) cs e = let z : ◌≡◌ {A = ℕ} 0 1 = cc in absurd (omega arith)
+fine_turns (suc k) at [] cs e = no_more at cs e
+fine_turns (suc k) at (b ∷ bs) cs e = fine_turn k at (b ∷ bs) (one_claim_in (b ∷ bs)) cs (λ c ds. fine_turns k (at + size c) (drop (size c) (b ∷ bs)) ds) e
+
+pub judge_turns : (bs : List ℕ) → is_ok (judge bs) ≡ true → turns 256 3 (drop 3 bs) ≡ map Ok (records_in bs)
+judge_turns bs e = fine_turns 256 3 (drop 3 bs) (claims_in (judge bs)) (sym (judge_fine bs e).1 ∙ fine_claims (judge bs) e)
+
+-- an item lowers how many are left
+pub lowers : {S X : Type 0} (rest : S → List X) (s t : S) (x : X) → rest s ≡ x ∷ rest t → MakesProgress (λ _. ⊤) (item_count rest) s (Some x) t
+lowers rest s t x e = let l = ap length e in record { on = λ _. (tt, tt, omega arith); keeps = tt; rests = λ _. tt }
+
+-- an item of a list whose items are all Ok
+ok_item : {X : Type 0} (r : Option (Result X Fault)) (xs : List X) (n : ℕ) → option_map (λ x. x) r ≡ slice_get (map Ok xs) n → r ≡ option_map Ok (slice_get xs n)
+ok_item r xs n e = sym (option_map_id r) ∙ e ∙ slice_get-map Ok xs n
+
+is_there : {X : Type 0} (x : Result X Fault) (s : Option X) → Some x ≡ option_map Ok s → result_ok x ≡ s
+is_there (Ok x) (Some y) e = cc
+is_there (Ok x) None e = let z : ◌≡◌ {A = ℕ} 0 1 = cc in absurd (omega arith)
+is_there (Err f) (Some y) e = let z : ◌≡◌ {A = ℕ} 0 1 = cc in absurd (omega arith)
+is_there (Err f) None e = let z : ◌≡◌ {A = ℕ} 0 1 = cc in absurd (omega arith)
+
+is_none : {X : Type 0} (s : Option X) → ◌≡◌ {A = Option (Result X Fault)} None (option_map Ok s) → None ≡ s
+is_none None e = refl
+is_none (Some x) e = let z : ◌≡◌ {A = ℕ} 0 1 = cc in absurd (omega arith)
+
+-- what `nth` gave, as claim n of the list
+module _ {X : Type 0} (r : Option (Result X Fault)) (xs : List X) (n : ℕ) (e : option_map (λ x. x) r ≡ slice_get (map Ok xs) n) where
+  pub nth_there : (x : Result X Fault) → r ≡ Some x → result_ok x ≡ slice_get xs n
+  nth_there x is = is_there x (slice_get xs n) (sym is ∙ ok_item r xs n e)
+
+  pub nth_none : r ≡ None → None ≡ slice_get xs n
+  nth_none is = is_none (slice_get xs n) (sym is ∙ ok_item r xs n e)
 
 -- no more claims than may come
 few_followed : (k : ℕ) (c : Claim) (v : Verdict) → length (claims_in v) ≤ k → length (claims_in (followed c v)) ≤ suc k

@@ -1,5 +1,5 @@
 -- What a check answers: accepted are exactly the packets of some claims, and the records stand for those.
-use Rattle.std.specs.Prelude.{◌≡◌, ℕ, ◌+◌, ◌-◌, ◌<◌, ◌⊎◌, List, [], ◌∷◌, ◌++◌, length, take, drop, Some, None, Ok, Err, Option, Result, ◌≢◌, slice_index}
+use Rattle.std.specs.Prelude.{◌≡◌, ℕ, ◌+◌, ◌-◌, ◌<◌, ◌⊎◌, List, ◌++◌, length, take, drop, Some, None, Ok, Err, Option, Result, ◌≢◌, slice_index}
 use Rattle.std.specs.List.{AllByRecursion}
 use Rattle.claims.specs.Claims.{claims_of}
 use Rattle.claims.specs.Meaning.{Claim}
@@ -20,11 +20,6 @@ fault_in (Err f) = Some f
 abbrev pub fault_of : {X : Type 0} → Result X Fault → Option Fault
 fault_of (Ok x) = None
 fault_of (Err f) = Some f
-
--- the packet that goes on: the bytes, or the empty packet where they were refused
-abbrev pub kept : List ℕ → Option Fault → List ℕ
-kept bytes None = bytes
-kept bytes (Some f) = 1 ∷ 0 ∷ 0 ∷ []
 
 -- the one list of claims that the bytes carry, which their records stand for whatever the rule text
 pub record Accepted (bytes : List ℕ) : Type 0 where

@@ -3,5 +3,6 @@ pub mod Format
 pub mod Judge
 pub mod Held
 pub mod Records
+pub mod Turns
 pub mod Exact
 pub mod Examples

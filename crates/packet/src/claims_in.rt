@@ -1,7 +1,9 @@
 // The claims of a packet, one after the other, and the first fault among them.
 ghost use Rattle.std.specs.Prelude.{◌≡◌, drop, IfOk};
 ghost use Rattle.packet.specs.Held.{held_value, held_claim, meant, past as past_claim, InsideValue, InsideClaim, ClaimLies};
+ghost use Rattle.std.specs.Iterator.{YieldsFirst, item_count};
 ghost use Rattle.packet.specs.Judge.{well_formed_value, well_formed_claim, one_claim_in, walk, judge, counted};
+ghost use Rattle.packet.specs.Turns.{turns};
 
 use super::fields::{Bytes, past_text};
 use claims::{Claim, Value, value_type};
@@ -9,6 +11,15 @@ use faults::{Cause, Fault};
 use units::is_well_formed;
 
 const MAX_CLAIMS: u16 = 256;
+
+// The claims of a packet, one after the other, and where one is at fault, the fault as the last.
+// Where a claim begins depends on the one before it, so a place is kept and no index is counted.
+#[derive(Drop)]
+pub struct Walk<'a> {
+    packet: Bytes<'a>,
+    at: usize,
+    left: u16,
+}
 
 // The place behind a claim.
 pub fn past(claim: Claim) -> usize
@@ -58,26 +69,57 @@ impl<'a> Bytes<'a> {
         Ok(claim)
     }
 
+    // The claims behind the head.
+    pub fn claims(&self) -> Walk<'a>
+        ensures { turns result.left result.at (drop result.at result.packet.bytes.now) ≡ turns 256 3 (drop 3 self.now.bytes.now) }
+    {
+        Walk {
+            packet: *self,
+            at: 3,
+            left: MAX_CLAIMS,
+        }
+    }
+
     // The count of the claims behind the head, or their first fault.
     fn check_claims(&self) -> Result<u16, Fault>
         ensures { result ≡ counted 0 (walk 256 3 (drop 3 self.now.bytes.now)) }
     {
-        let mut at = 3;
         let mut count = 0;
-        while at < self.bytes.len() {
-            if count == MAX_CLAIMS {
-                return Err(Fault::at(Cause::TooManyClaims, at as u16));
-            }
-            // By cases: with `map_err` and `?` the proof that the fault is the walk's did not close.
-            match self.claim_at(at) {
-                Ok(claim) => {
-                    at = past(claim);
-                    count += 1;
-                }
-                Err(cause) => return Err(Fault::at(cause, at as u16)),
-            }
+        for claim in self.claims() {
+            claim?;
+            count += 1;
         }
         Ok(count)
+    }
+}
+
+impl Iterator for Walk<'_> {
+    type Item = Result<Claim, Fault>;
+
+    ghost next_gives = { YieldsFirst (λ w. turns w.left w.at (drop w.at w.packet.bytes.now)) };
+
+    ghost remaining = { item_count (λ w. turns w.left w.at (drop w.at w.packet.bytes.now)) };
+
+    fn next(&mut self) -> Option<Result<Claim, Fault>> {
+        let at = self.at;
+        let end = self.packet.bytes.len();
+        if at >= end {
+            return None;
+        }
+        // After a fault nothing more comes.
+        self.at = end;
+        if self.left == 0 {
+            return Some(Err(Fault::at(Cause::TooManyClaims, at as u16)));
+        }
+        // By cases: one arm goes on, the other is the last.
+        match self.packet.claim_at(at) {
+            Ok(claim) => {
+                self.at = past(claim);
+                self.left -= 1;
+                Some(Ok(claim))
+            }
+            Err(cause) => Some(Err(Fault::at(cause, at as u16))),
+        }
     }
 }
 

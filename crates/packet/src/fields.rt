@@ -38,9 +38,7 @@ impl<'a> Bytes<'a> {
         ensures means { meant (held_text self.now.bytes.now) result ≡ need (text_in (drop at self.now.bytes.now)) ClaimPastEnd (λ us. Ok us) }
         ensures lies { IfOk result (λ t. Lies self.now.bytes.now at t) }
     {
-        let Some(n) = self.bytes.get(at) else {
-            return Err(Cause::ClaimPastEnd);
-        };
+        let n = self.bytes.get(at).ok_or(Cause::ClaimPastEnd)?;
         let len = u16::from(*n);
         if self.bytes.len() < at + 1 + 2 * usize::from(len) {
             return Err(Cause::ClaimPastEnd);
@@ -58,9 +56,7 @@ impl<'a> Bytes<'a> {
         ensures value { result ≡ (if nat_le 8 (length (drop at self.now.bytes.now)) then Ok (number_in 256 (take 8 (drop at self.now.bytes.now))) else Err ClaimPastEnd) }
         ensures inside { IfOk result (λ _. at + 8 ≤ length self.now.bytes.now) }
     {
-        let Some(eight) = self.bytes[at..].first_chunk() else {
-            return Err(Cause::ClaimPastEnd);
-        };
+        let eight = self.bytes[at..].first_chunk().ok_or(Cause::ClaimPastEnd)?;
         Ok(u64::from_be_bytes(*eight))
     }
 
@@ -68,9 +64,7 @@ impl<'a> Bytes<'a> {
         ensures means { meant (held_value self.now.bytes.now) result ≡ boolean_in (drop at self.now.bytes.now) }
         ensures lies { IfOk result (λ v. ValueLies self.now.bytes.now at v) }
     {
-        let Some(b) = self.bytes.get(at) else {
-            return Err(Cause::ClaimPastEnd);
-        };
+        let b = self.bytes.get(at).ok_or(Cause::ClaimPastEnd)?;
         if *b > 1 {
             return Err(Cause::BooleanOverOne);
         }

@@ -4,7 +4,7 @@ ghost use Rattle.packet.specs.Exact.{Exact, fault_in, fault_of};
 ghost use Rattle.packet.specs.Judge.{judge, claims_in};
 ghost use Rattle.packet.specs.Records.{records_in};
 
-use super::claims_in::{judged, past};
+use super::claims_in::judged;
 use super::fields::Bytes;
 use claims::{Claim, Source};
 use faults::Fault;
@@ -47,7 +47,7 @@ pub fn check(bytes: &[u8]) -> Result<Packet<'_>, Fault>
     Ok(Packet { bytes, count })
 }
 
-impl<'a> Source for Packet<'a> {
+impl Source for Packet<'_> {
     ghost list = { λ p. records_in p.bytes.now };
 
     fn count(&self) -> usize {
@@ -55,19 +55,6 @@ impl<'a> Source for Packet<'a> {
     }
 
     fn claim_at(&self, n: usize) -> Option<Claim> {
-        let packet = Bytes { bytes: self.bytes };
-        let mut at = 3;
-        let mut left = n;
-        while at < self.bytes.len() {
-            let Ok(claim) = packet.claim_at(at) else {
-                return None;
-            };
-            if left == 0 {
-                return Some(claim);
-            }
-            left -= 1;
-            at = past(claim);
-        }
-        None
+        Bytes { bytes: self.bytes }.claims().nth(n)?.ok()
     }
 }

@@ -1,9 +1,9 @@
-use Rattle.std.proofs.Common.{◌≡◌, ℕ, zero, suc, ◌+◌, ◌-◌, ◌*◌, ◌<◌, ◌≤◌, min, Bool, true, eqb, List, [], ◌∷◌, map, length, get_or, take, drop, sym, refl, ap, ◌∙◌, inl, inr, arith, eq-eqb}
+use Rattle.std.proofs.Common.{◌≡◌, ℕ, zero, suc, ◌+◌, ◌-◌, ◌*◌, ◌/◌, ◌%◌, ◌<◌, ◌≤◌, min, Bool, true, eqb, List, [], ◌∷◌, map, length, get_or, take, drop, sym, refl, ap, ◌∙◌, inl, inr, arith, eq-eqb}
 use Rattle.std.proofs.lemmas.List.{drop_all, take_all, length-drop, length-map, get_or-map}
 use Rattle.std.proofs.lemmas.Bool.Decides.{same_from_decides}
 use Rattle.std.proofs.lemmas.Grind.{same_number_lists}
 use Rattle.std.specs.Bool.{Decides}
-use Rattle.units.specs.Units.{units}
+use Rattle.units.specs.Units.{units, unit_bytes}
 use Rattle.std.proofs.lemmas.Bool.{and_parts, and_from, eqb-true, cases_lt}
 use Rattle.units.specs.Fold.{fold_unit, same_units, FoldAlike, FoldAlikeAt, Same}
 
@@ -43,6 +43,17 @@ pub units_part : (i j : ℕ) (bs : List ℕ) → units (take (2 * j - 2 * i) (dr
 units_part i j bs =
     let e : 2 * j - 2 * i ≡ 2 * (j - i) = omega arith in
     ap (λ n. units (take n (drop (2 * i) bs))) e ∙ units-take (j - i) (drop (2 * i) bs) ∙ ap (take (j - i)) (units-drop i bs)
+
+-- the bytes of units, and those units again
+pub length-unit_bytes : (us : List ℕ) → length (unit_bytes us) ≡ 2 * length us
+length-unit_bytes [] = refl
+length-unit_bytes (u ∷ us) = let r = length-unit_bytes us in omega arith
+
+pub units_again : (us : List ℕ) → units (unit_bytes us) ≡ us
+units_again [] = refl
+units_again (u ∷ us) =
+    let e : u / 256 * 256 + u % 256 ≡ u = omega arith in
+    ap (λ v. v ∷ units (unit_bytes us)) e ∙ ap (λ t. u ∷ t) (units_again us)
 
 -- a run that is cut off where the list ends
 take_past : (n m : ℕ) (xs : List ℕ) → length xs ≤ n → length xs ≤ m → take n xs ≡ take m xs

@@ -11,10 +11,11 @@ same_units [] (y ∷ ys) = false
 same_units (x ∷ xs) [] = false
 same_units (x ∷ xs) (y ∷ ys) = fold_unit x == fold_unit y && same_units xs ys
 
--- as many units, folding alike at each place
+-- folding alike at each place of the first
 abbrev pub FoldAlikeAt : List ℕ → List ℕ → Type 0
 FoldAlikeAt xs ys = (k : ℕ) → k < length xs → fold_unit (slice_index xs k) ≡ fold_unit (slice_index ys k)
 
+-- as many units, folding alike at each place
 abbrev pub FoldAlike : List ℕ → List ℕ → Type 0
 FoldAlike xs ys = (length xs ≡ length ys) × FoldAlikeAt xs ys
 

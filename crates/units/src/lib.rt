@@ -24,7 +24,7 @@ impl<'a> Units<'a> {
     }
 }
 
-impl<'a> Iterator for Units<'a> {
+impl Iterator for Units<'_> {
     type Item = u16;
 
     ghost next_gives = { YieldsFirst (λ s. units s.rest.now) };
@@ -71,7 +71,7 @@ pub fn unit_or_zero(text: &[u8], i: usize) -> u16
 }
 
 // Up to so many units from a place on: fewer where the text ends before.
-pub fn run_of<'a>(text: &'a [u8], from: usize, len: u16) -> &'a [u8]
+pub fn run_of(text: &[u8], from: usize, len: u16) -> &[u8]
     ensures { units result.now ≡ take len (drop from (units text.now)) }
 {
     let bytes = text.len();
@@ -147,8 +147,7 @@ fn folds_to(text: &[u8], name: &[u8]) -> bool
     ensures alike { IsTrue result → FoldAlike (units text.now) name.now }
     ensures unlike { length (units text.now) ≡ length name.now → FoldAlikeAt (units text.now) name.now → IsTrue result }
 {
-    count(text) == name.len()
-        && Units::of(text)
-            .zip(name)
-            .all(|(u, b)| fold(u) == fold(u16::from(*b)))
+    Units::of(text)
+        .map(fold)
+        .eq(name.iter().copied().map(|b| fold(u16::from(b))))
 }
