@@ -15,7 +15,7 @@ use Rattle.automaton.specs.declared.Automaton.{Automaton}
 use Rattle.automaton.specs.Places.{bit, Has, size, null, first, last, links, Linked, atoms_of, atoms, follows as afters, Stands}
 use Rattle.automaton.specs.Run.{room, masked, reached, stepped, ends as stops, run}
 use Rattle.automaton.proofs.Sets.{bit-bit_and}
-use Rattle.automaton.proofs.Holds.{has_split, has_left, has_right, has_none, has_one, only_one, has_if, empty_left, null_of, of_null, Lang, Holds, enter, leave, ends, follows, At, goes}
+use Rattle.automaton.proofs.Holds.{split_if, has_left, has_right, has_none, has_one, only_one, has_if, empty_left, null_of, of_null, Lang, Holds, enter, leave, ends, follows, At, goes}
 
 -- what a number other than 0 holds
 some_bit : (f s : ℕ) → s ≤ f → 0 < s → (p : ℕ) × Has s p
@@ -45,10 +45,6 @@ keep_if false s g p h = h
 add_if : (b : Bool) (s g p : ℕ) → b ≡ true → Has g p → Has (cond b (bit_or s g) s) p
 add_if true s g p e h = has_right s g p h
 add_if false s g p e h = absurd (false≢true e)
-
-split_if : (b : Bool) (s g p : ℕ) → Has (cond b (bit_or s g) s) p → Has s p ⊎ ((b ≡ true) × Has g p)
-split_if true s g p h = elim (has_split s g p h) [ inl i ↦ inl i | inr i ↦ inr (refl, i) ]
-split_if false s g p h = inl h
 
 mask_add : (xs : List Atom) (u n i : ℕ) → i < n → fits (get_or xs i (Plain 0)) u ≡ true → Has (masked xs u n) i
 mask_add xs u zero i lt f = absurd (omega arith)

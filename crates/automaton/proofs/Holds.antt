@@ -4,17 +4,13 @@ use mathlib.Core.Bool.{false≢true}
 use mathlib.Core.List.{nil≢cons, cons≢nil, head-eq_of_cons-eq, tail-eq_of_cons-eq}
 use native.Mathlib.Nat.{zero-div, div_self, div-eq_of_lt}
 use lib.Bits.{bit_or}
-use Rattle.std.proofs.lemmas.Bool.{or_cases, and_parts}
+use Rattle.std.proofs.lemmas.Bool.{or_cases, or_right, and_parts}
 use Rattle.std.proofs.str.Laws.{order}
 use Rattle.std.proofs.lemmas.Nat.{pow_pos, pow-add, shl-shr, pow_below}
 use Rattle.automaton.specs.declared.Atom.{Atom}
 use Rattle.automaton.specs.Language.{fits, Tree, empty, one, either, followed, star, plus, opt, Many, none, more, Then, In}
 use Rattle.automaton.specs.Places.{bit, Has, size, null, first, last, Link, links, Linked}
 use Rattle.automaton.proofs.Sets.{bit-bit_or}
-
-true_or : (a b : Bool) → b ≡ true → (a || b) ≡ true
-true_or true b h = refl
-true_or false b h = h
 
 pub has_split : (a b p : ℕ) → Has (bit_or a b) p → Has a p ⊎ Has b p
 has_split a b p h = or_cases (bit a p) (bit b p) (sym (bit-bit_or a b p) ∙ h)
@@ -23,7 +19,11 @@ pub has_left : (a b p : ℕ) → Has a p → Has (bit_or a b) p
 has_left a b p h = bit-bit_or a b p ∙ ap (λ z. z || bit b p) h
 
 pub has_right : (a b p : ℕ) → Has b p → Has (bit_or a b) p
-has_right a b p h = bit-bit_or a b p ∙ true_or (bit a p) (bit b p) h
+has_right a b p h = bit-bit_or a b p ∙ or_right (bit a p) (bit b p) h
+
+pub split_if : (b : Bool) (s g p : ℕ) → Has (cond b (bit_or s g) s) p → Has s p ⊎ ((b ≡ true) × Has g p)
+split_if true s g p h = elim (has_split s g p h) [ inl i ↦ inl i | inr i ↦ inr (refl, i) ]
+split_if false s g p h = inl h
 
 pub has_none : (p : ℕ) → Has 0 p → ⊥
 has_none p h = let e = true-eqb (0 / 2 ^ p % 2) 1 (sym h) in omega (arith, e, zero-div (2 ^ p))
@@ -78,7 +78,7 @@ pub null_of : (t : Tree) → In t [] → null t ≡ true
 null_of empty h = refl
 null_of (one s) h = absurd (nil≢cons h.1)
 null_of (either a b) (inl h) = ap (λ z. z || null b) (null_of a h)
-null_of (either a b) (inr h) = true_or (null a) (null b) (null_of b h)
+null_of (either a b) (inr h) = or_right (null a) (null b) (null_of b h)
 null_of (followed a b) h =
     ap (λ z. z && null b) (null_of a (subst (In a) (empty_left h.0 h.1 h.2) h.3))
     ∙ null_of b (subst (In b) (empty_right h.0 h.1 h.2) h.4)

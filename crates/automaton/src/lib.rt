@@ -26,7 +26,8 @@ pub struct Place {
 }
 
 // The places are numbered from 0; the first `count` are in use. Beside the count they stand in an array, not in an
-// ArrayVec, which is no plain value: a pattern can be copied, and is handed on as a copy.
+// ArrayVec, which cannot be copied: `pattern::Pattern`, which is public and holds an automaton, is `Copy`, and a type
+// that can do less would promise less.
 #[derive(Clone, Copy)]
 pub struct Automaton {
     pub head: bool,

@@ -8,9 +8,9 @@ use Rattle.automaton.specs.Places.{size}
 use Rattle.pattern.specs.Signs.{special, begins}
 use Rattle.pattern.specs.Grammar.{Kind, Spells, one_way, or_way, nothing, and_then, once, starred, plussed, queried, dot, unit, escaped, bracketed, closing}
 use Rattle.pattern.specs.Formed.{formed}
-use Rattle.pattern.specs.Parsed.{whole, pattern_match}
-use Rattle.pattern.specs.Caused.{shallow, few, body, cause_of_pattern, cause_of, answer_of, pattern_answer}
-use Rattle.pattern.specs.Judged.{WellFormed, WithinLimits, Refusal, Reads, Decided}
+use Rattle.pattern.specs.Parsed.{whole}
+use Rattle.pattern.specs.Caused.{shallow, few, body, cause_of_pattern, cause_of}
+use Rattle.pattern.specs.Judged.{WellFormed, WithinLimits, Refusal, Reads}
 use Rattle.pattern.specs.declared.Pattern.{Pattern}
 use Rattle.pattern.specs.declared.scan.State.TheVariants.{Fresh}
 use Rattle.pattern.proofs.Onward.{no_eq}
@@ -111,7 +111,3 @@ module _ (us : List ℕ) where
   pub told_cause : (r : Result Pattern Cause) → Reads us r → cause_of r ≡ cause_of_pattern us
   told_cause (Ok p) a = accepted_cause (a.head, a.tail, a.tree, a.written, a.few)
   told_cause (Err c) h = refused_cause c h
-
-  pub told_answer : (ws : List ℕ) (r : Result Bool Cause) → Decided us ws r → r ≡ pattern_answer us ws
-  told_answer ws (Ok b) a = ap Ok a.value ∙ ap (λ c. answer_of c (pattern_match us ws)) (accepted_cause a.within)
-  told_answer ws (Err c) h = ap (λ o. answer_of o (pattern_match us ws)) (refused_cause c h)

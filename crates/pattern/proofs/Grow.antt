@@ -1,5 +1,5 @@
 -- Links that are added to what may follow each place.
-use Rattle.std.proofs.Common.{◌≡◌, ℕ, ◌+◌, ◌<◌, ◌≤◌, Bool, true, false, cond, ◌≢◌, ◌⊎◌, List, [], ◌∷◌, ◌++◌, length, get_or, set, sym, refl, ap, ◌∙◌, subst, inl, inr, arith}
+use Rattle.std.proofs.Common.{◌≡◌, ℕ, ◌+◌, ◌<◌, ◌≤◌, Bool, true, false, cond, ◌≢◌, ◌⊎◌, List, [], ◌∷◌, ◌++◌, length, get_or, set, sym, ap, ◌∙◌, subst, inl, inr, arith}
 use mathlib.Core.Bool.{false≢true}
 use lib.Bits.{bit_or}
 use Rattle.std.proofs.lemmas.List.{get_or-set_same, get_or-set_other, map-set}
@@ -9,7 +9,7 @@ use Rattle.automaton.specs.declared.Atom.{Atom}
 use Rattle.automaton.specs.declared.Place.{Place}
 use Rattle.automaton.specs.Places.{bit, Has, Link, follows}
 use Rattle.automaton.proofs.Used.{blank}
-use Rattle.automaton.proofs.Holds.{has_split, has_left, has_right, linked_left, linked_right, linked_split}
+use Rattle.automaton.proofs.Holds.{split_if, has_left, has_right, linked_left, linked_right, linked_split}
 use Rattle.pattern.specs.Parts.{Grown}
 
 pub grown_none : (f g : List ℕ) → g ≡ f → Grown f g []
@@ -60,10 +60,6 @@ module _ (from to : ℕ) (before after : List ℕ) (p : ℕ) (s : Spread from to
     λ k le. let ne : k ≢ p = omega arith in get_or-set_other after p k (bit_or (get_or after p 0) to) 0 ne ∙ s.1 k (omega arith),
   )
 
-split_to : (b : Bool) (f to q : ℕ) → Has (cond b (bit_or f to) f) q → Has f q ⊎ ((b ≡ true) × Has to q)
-split_to true f to q h = elim (has_split f to q h) [ inl i ↦ inl i | inr i ↦ inr (refl, i) ]
-split_to false f to q h = inl h
-
 join_to : (b : Bool) (f to q : ℕ) → Has f q ⊎ ((b ≡ true) × Has to q) → Has (cond b (bit_or f to) f) q
 join_to true f to q h = elim h [ inl i ↦ has_left f to q i | inr i ↦ has_right f to q i.1 ]
 join_to false f to q h = elim h [ inl i ↦ i | inr i ↦ absurd (false≢true i.0) ]
@@ -71,7 +67,7 @@ join_to false f to q h = elim h [ inl i ↦ i | inr i ↦ absurd (false≢true i
 pub grown_one : (from to : ℕ) (before after : List ℕ) (p : ℕ) → 60 ≤ p → Spread from to before after p → Grown before after ((from, to) ∷ [])
 grown_one from to before after n le s p q lt =
     let e = s.0 p (omega arith) in (
-      λ h. elim (split_to (bit from p) (get_or before p 0) to q (subst (λ z. Has z q) e h)) [ inl i ↦ inl i | inr i ↦ inr (inl i) ],
+      λ h. elim (split_if (bit from p) (get_or before p 0) to q (subst (λ z. Has z q) e h)) [ inl i ↦ inl i | inr i ↦ inr (inl i) ],
       λ h. subst (λ z. Has z q) (sym e) (join_to (bit from p) (get_or before p 0) to q (elim h [ inl i ↦ inl i | inr i ↦ elim i [ inl j ↦ inr j | inr j ↦ absurd j ] ])),
     )
 

@@ -1,6 +1,5 @@
 -- What stands at a place of a text, and what is left there.
-use Rattle.std.proofs.Common.{◌≡◌, ℕ, zero, suc, ◌+◌, ◌-◌, ◌*◌, ◌<◌, ◌≤◌, Bool, true, false, cond, eqb, nat_eq, List, [], ◌∷◌, length, take, drop, Some, None, Option, MatchOption, sym, refl, ap, ◌∙◌, add-one, arith, eq-eqb, ne_eqb}
-use Rattle.std.proofs.Math.Seq.{take-length}
+use Rattle.std.proofs.Common.{◌≡◌, ℕ, zero, suc, ◌+◌, ◌*◌, ◌<◌, ◌≤◌, Bool, true, false, cond, eqb, nat_eq, List, [], ◌∷◌, length, drop, Some, None, Option, MatchOption, sym, refl, ap, ◌∙◌, add-one, arith, eq-eqb, ne_eqb}
 use Rattle.units.specs.Units.{units}
 use Rattle.units.proofs.Texts.{length-units}
 use Rattle.std.specs.List.{slice_get}
@@ -56,12 +55,6 @@ begins_at (u ∷ us) (suc i) c = begins_at us i c
 pub stops_at : (us : List ℕ) (i : ℕ) (o : Option ℕ) (r : Bool) → o ≡ slice_get us i → MatchOption o (r ≡ true) (λ u. r ≡ parting u) → r ≡ stops (drop i us)
 stops_at us i None r e h = h ∙ sym (ap stops (nothing_left us i e))
 stops_at us i (Some u) r e h = h ∙ sym (ap stops (unit_left us i u e))
-
--- what stands behind an opening anchor
-pub behind_first : (bs : List ℕ) → 2 ≤ length bs → units (take (length bs - 2) (drop 2 bs)) ≡ drop 1 (units bs)
-behind_first [] le = absurd (omega arith)
-behind_first (h ∷ []) le = absurd (omega arith)
-behind_first (h ∷ l ∷ bs) le = let e : length (h ∷ l ∷ bs) - 2 ≡ length bs = omega arith in ap (λ n. units (take n bs)) e ∙ ap units (take-length bs)
 
 -- a text has half as many units as bytes
 pub half : (bs : List ℕ) → 2 * length (units bs) ≤ length bs

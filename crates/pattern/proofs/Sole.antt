@@ -151,14 +151,11 @@ module _ (us : List ℕ) (at : ℕ) (here : begins 40 (drop at us) ≡ true) whe
   inside_of : {D : ℕ} {t : Tree} {u : List ℕ} (v : List ℕ) → drop at us ≡ u ++ v → (w : Group D t u) → drop (at + 1) us ≡ w.inner ++ (41 ∷ v)
   inside_of v e w = behind us at 40 _ (e ∙ ap (λ z. z ++ v) w.whole) ∙ append_assoc w.inner (41 ∷ []) v
 
-  pub group_deep : (d n : ℕ) → d ≡ 0 → Refused atom us d at n
-  group_deep d n z t u v s e h few = let w = group s v e in let g = w.deeper in omega arith
-
-  pub group_refused : (d n : ℕ) → (d ≡ 0 → ⊥) → Refused choice us (d - 1) (at + 1) n → Refused atom us d at n
-  group_refused d n nz ref t u v s e h few =
+  pub group_refused : (d n : ℕ) {m : ℕ} → (1 ≤ d) × (m ≡ d - 1) → Refused choice us m (at + 1) n → Refused atom us d at n
+  group_refused d n {m} less ref t u v s e h few =
       let w = group s v e in
       let g = w.deeper in
-      let k : w.depth ≡ d - 1 = omega arith in
+      let k : w.depth ≡ m = omega (arith, less.0, less.1) in
       ref t w.inner (41 ∷ v) (subst (λ i. Spells i choice t w.inner) k w.spelt) (inside_of v e w) (refl, refl) few
 
   pub group_open : {d n m : ℕ} {f g : Table} {p : Piece} → Read choice us d (at + 1) n f g p → begins 41 (drop p.at us) ≡ false → Refused atom us m at n
@@ -169,9 +166,9 @@ module _ (us : List ℕ) (at : ℕ) (here : begins 40 (drop at us) ≡ true) whe
       let left = append_cancel_left x.got.text (drop p.at us) (41 ∷ v) (sym x.got.split ∙ e' ∙ ap (λ z. z ++ (41 ∷ v)) o.1) in
       false≢true (sym no-close ∙ ap (begins 41) left)
 
-  pub group_read : {d n : ℕ} {f g : Table} {p r : Piece} {b : Bool} → (d ≡ 0 → ⊥) → Read choice us (d - 1) (at + 1) n f g p → begins 41 (drop p.at us) ≡ true → Moved p b r → b ≡ p.null → Read atom us d at n f g r
-  group_read {d} {n} {f} {g} {p} {r} nz x close j z =
-      let k : suc (d - 1) ≡ d = omega arith in
+  pub group_read : {d m n : ℕ} {f g : Table} {p r : Piece} {b : Bool} → (1 ≤ d) × (m ≡ d - 1) → Read choice us m (at + 1) n f g p → begins 41 (drop p.at us) ≡ true → Moved p b r → b ≡ p.null → Read atom us d at n f g r
+  group_read {d} {m} {n} {f} {g} {p} {r} less x close j z =
+      let k : suc m ≡ d = omega (arith, less.0, less.1) in
       let c = stood_within us p.at 41 close in
       subst (λ i. Read atom us i at n f g r) k (record {
         got = got_group here x.got close j z;
@@ -249,9 +246,6 @@ module _ {d : ℕ} (a : Atom) (k : ℕ) where
 module _ (us : List ℕ) (at : ℕ) (away : begins 40 (drop at us) ≡ false) where
   one_unit : {D : ℕ} {t : Tree} {u : List ℕ} → Spells D atom t u → (v : List ℕ) → drop at us ≡ u ++ v → Simple t u (u ++ v)
   one_unit s v e = simple_of s v (sym (ap (begins 40) e) ∙ away)
-
-  pub full_refused : (d n : ℕ) → 60 ≤ n → Refused atom us d at n
-  full_refused d n le t u v s e h few = let w = one_unit s v e in let k = ap size w.tree in omega arith
 
   pub simple_refused : (d n : ℕ) → None ≡ simple (drop at us) → Refused atom us d at n
   simple_refused d n gone t u v s e h few = let w = one_unit s v e in never (gone ∙ ap simple e ∙ w.found)

@@ -1,8 +1,11 @@
 -- A whole pattern with its anchors.
-use Rattle.std.proofs.Common.{◌≡◌, ℕ, ◌<◌, ◌≤◌, Bool, true, false, cond, eqb, ltb, List, [], ◌∷◌, ◌++◌, length, get_or, take, drop, sym, refl, ap, ◌∙◌, subst, inl, inr, true≢false, zero-add, arith}
+use Rattle.std.proofs.Common.{◌≡◌, ℕ, ◌<◌, ◌≤◌, Bool, true, false, cond, eqb, ltb, List, [], ◌∷◌, ◌++◌, length, get_or, take, drop, Some, None, Err, Option, Result, sym, refl, ap, ◌∙◌, subst, inl, inr, true≢false, zero-add, arith}
 use mathlib.Core.Bool.{false≢true}
 use Rattle.std.proofs.lemmas.List.{length-drop, append_cancel_left}
 use Rattle.std.proofs.lemmas.Bool.{eqb-true, cases_Bool, lt-ltb, le-ltb}
+use Rattle.std.specs.Option.{ok_or}
+use Rattle.faults.specs.declared.Cause.{Cause}
+use Rattle.faults.specs.declared.Cause.TheVariants.{PatternOverLimit}
 use Rattle.automaton.specs.Language.{Tree}
 use Rattle.automaton.specs.Places.{Has, size, links, Linked}
 use Rattle.automaton.proofs.Holds.{has_none}
@@ -44,6 +47,11 @@ same_closing false false q = refl
 tail_told : (us : List ℕ) (at : ℕ) (e : Bool) → at ≤ length us → drop at us ≡ closing e → ltb at (length us) ≡ e
 tail_told us at true le q = let l = sym (length-drop at us) ∙ ap length q in lt-ltb at (length us) (omega arith)
 tail_told us at false le q = let l = sym (length-drop at us) ∙ ap length q in le-ltb at (length us) (omega arith)
+
+-- a choice that was refused
+pub over_limit_is : (o : Option Part) (f : Cause) → ◌≡◌ {A = Result Part Cause} (Err f) (ok_or o PatternOverLimit) → o ≡ None → f ≡ PatternOverLimit
+over_limit_is None f e n = cc
+over_limit_is (Some p) f e n = let z : ◌≡◌ {A = ℕ} 0 1 = cc in absurd (omega arith)
 
 -- what stands between the anchors
 pub record Body (d : ℕ) (head : Bool) (start : ℕ) (h e : Bool) (t : Tree) (us : List ℕ) : Type 0 where

@@ -3,7 +3,7 @@
 // A text matches exactly when some run of its neighbouring units belongs to that tree, as the anchors allow.
 #![tactic(auto)]
 
-ghost use Rattle.std.specs.Prelude.{◌≡◌, ℕ, Bool, List, Decides};
+ghost use Rattle.std.specs.Prelude.{◌≡◌, ℕ, Bool, List, is_some, unwrap_or, Decides};
 ghost use Rattle.units.specs.Units.{units};
 ghost use Rattle.automaton.specs.Language.{Tree, Matches};
 ghost use Rattle.automaton.specs.Places.{Stands};
@@ -34,16 +34,15 @@ const UNUSED: Place = Place {
     follow: 0,
 };
 
-// Whether the pattern has the opening anchor, and what stands behind it.
-fn behind_head(pattern: &[u8]) -> (bool, &[u8])
-    ensures head { result.0 ≡ begins 94 (units pattern.now) }
-    ensures body { units result.1.now ≡ body (units pattern.now) }
+// What stands behind the opening anchor, where the pattern has one.
+fn behind_head(pattern: &[u8]) -> Option<&[u8]>
+    ensures head { is_some result ≡ begins 94 (units pattern.now) }
+    ensures body { units (unwrap_or result pattern.entry).now ≡ body (units pattern.now) }
 {
-    if signs::stands(pattern, 0, signs::HEAD) {
-        (true, &pattern[2..])
-    } else {
-        (false, pattern)
-    }
+    let [0, b'^', body @ ..] = pattern else {
+        return None;
+    };
+    Some(body)
 }
 
 // Reads a pattern. Whether it is well formed is judged first, at any depth, so that only a well-formed one can be
@@ -52,7 +51,8 @@ pub fn read(pattern: &[u8]) -> Result<Pattern, Cause>
     ensures exact { Reads (units pattern.now) result }
     ensures value { cause_of result ≡ cause_of_pattern (units pattern.now) }
 {
-    let (head, body) = behind_head(pattern);
+    let behind = behind_head(pattern);
+    let body = behind.unwrap_or(pattern);
     if !scan::well_formed(body) {
         return Err(Cause::MalformedPattern);
     }
@@ -62,12 +62,10 @@ pub fn read(pattern: &[u8]) -> Result<Pattern, Cause>
         count: 0,
         places: [UNUSED; 60],
     };
-    let Some(whole) = reader.choice(8) else {
-        return Err(Cause::PatternOverLimit);
-    };
+    let whole = reader.choice(8).ok_or(Cause::PatternOverLimit)?;
     Ok(Pattern {
         automaton: Automaton {
-            head,
+            head: behind.is_some(),
             tail: reader.at < count(body),
             nullable: whole.null,
             firsts: whole.first,

@@ -10,6 +10,7 @@ ghost use Rattle.pattern.specs.Signs.{begins, stops as stops_at};
 
 use super::signs::*;
 use automaton::{Atom, Place, has};
+use units::unit_at;
 
 // A part that was read: where its runs begin and end, and whether the empty run belongs.
 #[derive(Clone, Copy)]
@@ -20,6 +21,8 @@ pub struct Part {
 }
 
 // Reads a pattern, from `at` on: each atom for one unit takes the next of the places, of which `count` are in use.
+// It counts on to where it stands, since what holds of a part names where the part begins and ends; of the units that
+// are left, each part would have to work its places out again.
 // The places stand in an array, as in the automaton, and not in an ArrayVec, which would only be copied there.
 #[derive(Drop)]
 pub struct Reader<'a> {
@@ -92,21 +95,21 @@ impl Part {
 
 // Each of choice, sequence, item and atom reads what stands at `at`, and may open `depth` brackets more. None says that
 // no such part stands there within the limits.
-impl<'a> Reader<'a> {
+impl Reader<'_> {
     ghost use Rattle.pattern.specs.Reading.{Outcome};
 
     // Does this unit stand next?
     fn stands(&self, u: u16) -> bool
         ensures { result ≡ begins u (drop self.now.at (units self.now.pattern.now)) }
     {
-        stands(self.pattern, self.at, u)
+        unit_at(self.pattern, self.at) == Some(u)
     }
 
-    // Does a sequence end here?
+    // Does a sequence end here: at the end, a bar, a closing bracket or the closing anchor?
     fn stops(&self) -> bool
         ensures { result ≡ stops_at (drop self.now.at (units self.now.pattern.now)) }
     {
-        stops(self.pattern, self.at)
+        unit_at(self.pattern, self.at).is_none_or(parts)
     }
 
     #[cycle(atom_choice_item_sequence)]
@@ -169,11 +172,9 @@ impl<'a> Reader<'a> {
         ensures { Outcome Atomic depth self.old self.new result }
     {
         if self.stands(OPEN) {
-            if depth == 0 {
-                return None;
-            }
+            let deeper = depth.checked_sub(1)?;
             self.at += 1;
-            let inner = self.choice(depth - 1)?;
+            let inner = self.choice(deeper)?;
             if self.stands(CLOSE) {
                 self.at += 1;
                 return Some(inner);

@@ -1,7 +1,7 @@
 // The units that mean something of their own in a pattern.
 ghost use Rattle.std.specs.Prelude.{◌≡◌, drop, if◌then◌else◌, Some, None};
 ghost use Rattle.units.specs.Units.{units};
-ghost use Rattle.pattern.specs.Signs.{special as is_special, begins, parting, stops as stops_at, plainly, simple as simple_at};
+ghost use Rattle.pattern.specs.Signs.{special as is_special, parting, plainly, simple as simple_at};
 ghost use Rattle.automaton.specs.declared.Atom.TheVariants.{Plain};
 
 use automaton::Atom;
@@ -34,25 +34,11 @@ pub fn special(u: u16) -> bool
     matches!(u, 0x24 | 0x28..=0x2B | 0x2E | 0x3F | 0x5B..=0x5E | 0x7C)
 }
 
-// Does this unit stand at the place?
-pub fn stands(s: &[u8], at: usize, u: u16) -> bool
-    ensures { result ≡ begins u (drop at (units s.now)) }
-{
-    unit_at(s, at) == Some(u)
-}
-
 // Does the unit part or end sequences?
-fn parts(u: u16) -> bool
+pub fn parts(u: u16) -> bool
     ensures { result ≡ parting u }
 {
     matches!(u, BAR | CLOSE | TAIL)
-}
-
-// Is the place behind a sequence: the end, a bar, a closing bracket or the closing anchor?
-pub fn stops(s: &[u8], at: usize) -> bool
-    ensures { result ≡ stops_at (drop at (units s.now)) }
-{
-    unit_at(s, at).is_none_or(parts)
 }
 
 // A dot or a plain unit, written with one unit.
@@ -70,11 +56,7 @@ fn unescaped(u: u16) -> Option<(Atom, usize)>
 fn behind_escape(u: u16) -> Option<(Atom, usize)>
     ensures { result ≡ (if is_special u then Some (Plain u, 2) else None) }
 {
-    if special(u) {
-        Some((Atom::Plain(u), 2))
-    } else {
-        None
-    }
+    special(u).then_some((Atom::Plain(u), 2))
 }
 
 // The atom for one unit of text that stands at the place, and how many units it is written with.

@@ -3,15 +3,18 @@ ghost use Rattle.std.specs.Prelude.{◌≡◌, ◌+◌, ◌≤◌, min, length};
 ghost use Rattle.store.specs.Owned.{owned};
 ghost use Rattle.store.specs.Overlays.{laid_over, floor_over, capacity_over};
 
-use super::stores::Store;
+use super::stores::{MOST, Store};
 use arrayvec::ArrayVec;
 use claims::{Claim, Source};
 use faults::{Cause, Fault};
 
+// The most claims that an overlay puts behind those of its source.
+const OWN: usize = 128;
+
 #[derive(Drop)]
 pub struct Overlay<S: Source> {
     base: S,
-    own: ArrayVec<Claim, 128>,
+    own: ArrayVec<Claim, OWN>,
     ghost few: { length (owned own) ≤ 128 },
 }
 
@@ -33,14 +36,14 @@ impl<S: Source> Source for Overlay<S> {
     ghost list = { λ o. laid_over (S.Source.list o.base) (owned o.own) };
 
     fn count(&self) -> usize {
-        (self.base.count() + self.own.len()).min(512)
+        (self.base.count() + self.own.len()).min(MOST)
     }
 
     fn claim_at(&self, n: usize) -> Option<Claim> {
         let below = self.base.count();
         if n < below {
             self.base.claim_at(n)
-        } else if n < 512 {
+        } else if n < MOST {
             self.own.as_slice().get(n - below).copied()
         } else {
             None
@@ -59,7 +62,7 @@ impl<S: Source> Store for Overlay<S> {
     }
 
     fn append(&mut self, claim: Claim) -> Result<(), Fault> {
-        let room = (512 - self.base.count()).min(128);
+        let room = (MOST - self.base.count()).min(OWN);
         if self.own.len() >= room {
             return Err(Fault::at(Cause::StoreFull, 0));
         }

@@ -6,7 +6,12 @@ ghost use Rattle.store.specs.Calls.{Appended, Cut};
 use claims::{Claim, Source};
 use faults::Fault;
 
+// The most claims that any store holds.
+pub const MOST: usize = 512;
+
 // Floor and capacity never change, and the list's length stays between them. A refusal leaves the whole value as it was.
+// The bounds are said at each call, and not once as a law of the trait: the checker refuses a law where an implementation
+// has a lifetime, as the table's has.
 pub trait Store: Source {
     ghost floor_of: { Self → ℕ };
 

@@ -5,7 +5,7 @@ ghost use Rattle.arrayvec.specs.ArrayVec.{array_vec_len};
 use arrayvec::ArrayVec;
 use claims::Claim;
 
-pub mod calls;
+mod calls;
 
 #[derive(Drop)]
 pub struct Fixed {

@@ -1,33 +1,42 @@
-use Rattle.std.proofs.Common.{cond, drop, Ok, Err, refl, sym, ap, ◌∙◌, inl, inr}
+use Rattle.std.proofs.Common.{◌≡◌, cond, drop, Ok, Err, refl, sym, ap, ◌∙◌, inl, inr}
 use Rattle.std.proofs.lemmas.List.{get_or-replicate}
+use Rattle.std.proofs.lemmas.Result.{err_from_is_err_and}
 use Rattle.faults.specs.declared.Cause.TheVariants.{MalformedPattern, PatternOverLimit}
 use Rattle.units.specs.Units.{units}
 use Rattle.pattern.proofs.Caused.{told_cause}
-use Rattle.pattern.proofs.Whole.{malformed, well_formed_passed, over, accepted}
+use Rattle.pattern.proofs.Whole.{over_limit_is, malformed, well_formed_passed, over, accepted}
 use Rattle.pattern.specs.Judged.{Refusal}
 use Rattle.pattern.proofs.read.Goals as goal
 
 pub returns-then-not-well_formed : goal.returns-then-not-well_formed
 returns-then-not-well_formed c =
     let us = units c.args.pattern.now in
-    let h = c.behind_head-head.ensures in
-    let e : Refusal us MalformedPattern = inl (refl, malformed us _ _ h.head (h.body ∙ ap (λ z. drop (cond z 1 0) us) (sym h.head)) c.if-not-well_formed.ensures) in
+    let h = c.behind_head-behind.ensures in
+    let st = ap (λ r. units r.now) c.unwrap_or-body.ensures ∙ h.body ∙ ap (λ z. drop (cond z 1 0) us) (sym h.head) in
+    let e : Refusal us MalformedPattern = inl (refl, malformed us _ _ h.head st c.if-not-well_formed.ensures) in
     record { exact = e; value = told_cause us (Err MalformedPattern) e }
 
-pub returns-in_default : goal.returns-in_default
-returns-in_default c =
+pub returns-in_err-whole : goal.returns-in_err-whole
+returns-in_err-whole c =
     let us = units c.args.pattern.now in
-    let h = c.behind_head-head.ensures in
-    let st = h.body ∙ ap (λ z. drop (cond z 1 0) us) (sym h.head) in
-    let e : Refusal us PatternOverLimit = inr (refl, well_formed_passed us _ _ h.head st c.if-not-well_formed.ensures, over us _ _ h.head st c.in_default.ensures) in
-    record { exact = e; value = told_cause us (Err PatternOverLimit) e }
+    let h = c.behind_head-behind.ensures in
+    let st = ap (λ r. units r.now) c.unwrap_or-body.ensures ∙ h.body ∙ ap (λ z. drop (cond z 1 0) us) (sym h.head) in
+    let x = c.in_err-whole.ensures in
+    let p = err_from_is_err_and c.from_residual.result c.from_residual.ensures.1 in
+    let f = c.in_err-whole.field-0.0 in
+    let is : f ≡ PatternOverLimit = over_limit_is c.choice.result f x.value x.ok_part in
+    let ref = rw x.ok_part at c.choice.ensures in
+    let e : Refusal us f = inr (is, well_formed_passed us _ _ h.head st c.if-not-well_formed.ensures, over us _ _ h.head st ref) in
+    rw (p.1, p.2) (record { exact = e; value = told_cause us (Err f) e })
 
 pub returns : goal.returns
 returns c =
     let us = units c.args.pattern.now in
-    let h = c.behind_head-head.ensures in
-    let st = h.body ∙ ap (λ z. drop (cond z 1 0) us) (sym h.head) in
+    let h = c.behind_head-behind.ensures in
+    let is = c.is_some.ensures ∙ h.head in
+    let st = ap (λ r. units r.now) c.unwrap_or-body.ensures ∙ h.body ∙ ap (λ z. drop (cond z 1 0) us) (sym is) in
+    let read = rw c.in_ok-whole.ensures.ok_part at c.choice.ensures in
     let e =
-    accepted us c.behind_head-head.result.0 _ h.head st _ c.choice.new.self c.in-Some.whole
-    (λ k lt. get_or-replicate 60 k 0 0 lt) c.in-Some.ensures.read c.count.result c.count.ensures c.if-not-well_formed.ensures in
+    accepted us c.is_some.result _ is st _ c.choice.new.self c.in_ok-whole.whole
+    (λ k lt. get_or-replicate 60 k 0 0 lt) read.read c.count.result c.count.ensures c.if-not-well_formed.ensures in
     record { exact = e; value = told_cause us (Ok _) e }

@@ -3,7 +3,7 @@ ghost use Rattle.std.specs.Prelude.{◌≡◌, min, [], length};
 ghost use Rattle.store.specs.Tables.{list_in, floor_in, capacity_in};
 
 use super::Table;
-use crate::stores::Store;
+use crate::stores::{MOST, Store};
 use claims::{Claim, Source};
 use faults::{Cause, Fault};
 use list::List;
@@ -15,14 +15,14 @@ impl<'a> Table<'a> {
         ensures floor { floor_in result ≡ 0 }
         ensures space { capacity_in result ≡ min (length buffer.old) 512 }
     {
-        let room = buffer.len().min(512);
+        let room = buffer.len().min(MOST);
         Table {
             held: List::new(&mut buffer[..room]),
         }
     }
 }
 
-impl<'a> Source for Table<'a> {
+impl Source for Table<'_> {
     ghost list = { λ t. list_in t };
 
     fn count(&self) -> usize {
@@ -34,7 +34,7 @@ impl<'a> Source for Table<'a> {
     }
 }
 
-impl<'a> Store for Table<'a> {
+impl Store for Table<'_> {
     ghost floor_of = { λ t. floor_in t };
 
     ghost cap_of = { λ t. capacity_in t };

@@ -9,14 +9,14 @@ use Rattle.pattern.proofs.reader.Reader.+atom_choice_item_sequence.Goals as goal
 
 pub atom-returns-in_err-inner : goal.atom-returns-in_err-inner
 atom-returns-in_err-inner t c =
-    refused_is atom c.args.depth c.args.self.now _ _ c.from_residual.ensures
-    (group_refused (units c.args.self.now.pattern.now) c.args.self.now.at (sym c.if-stands.ensures) c.args.depth c.args.self.now.count c.if-depth-eq0.false c.in_err-inner.ensures)
+    refused_is atom c.args.depth c.args.self.now _ _ c.from_residual-in_err-inner.ensures
+    (group_refused (units c.args.self.now.pattern.now) c.args.self.now.at (sym c.if-stands.ensures) c.args.depth c.args.self.now.count c.in_ok-deeper.ensures c.in_err-inner.ensures)
 
 pub atom-returns-then-stands-2 : goal.atom-returns-then-stands-2
 atom-returns-then-stands-2 t c = record {
   same = c.in_ok-inner.ensures.same;
   read =
-      group_read (units c.args.self.now.pattern.now) c.args.self.now.at (sym c.if-stands.ensures) c.if-depth-eq0.false c.in_ok-inner.ensures.read
+      group_read (units c.args.self.now.pattern.now) c.args.self.now.at (sym c.if-stands.ensures) c.in_ok-deeper.ensures c.in_ok-inner.ensures.read
       (here c.in_ok-inner.ensures.same 41 _ c.if-stands-2.ensures) (moved _ _ _ _) refl;
 }
 

@@ -1,6 +1,0 @@
-use Rattle.units.specs.Units.{units}
-use Rattle.pattern.proofs.Looks.{stops_at}
-use Rattle.pattern.proofs.signs.stops.Goals as goal
-
-pub returns : goal.returns
-returns c = stops_at (units c.args.s.now) c.args.at c.unit_at.result c.is_none_or.result c.unit_at.ensures c.is_none_or.ensures
