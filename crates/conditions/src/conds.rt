@@ -1,11 +1,13 @@
 // The conditions of a selection, one function for each production.
 ghost use Rattle.std.specs.Prelude.{◌≡◌};
 ghost use Rattle.grammar.specs.Parse as G;
+ghost use Rattle.grammar.specs.Tree as T;
 ghost use Rattle.grammar.specs.Readers.{next};
 ghost use Rattle.cursor.specs.Pieces.{word_of};
 ghost use Rattle.cursor.specs.Reading.{Parses, rest};
 ghost use Rattle.conditions.specs.Shown.{oper_of, cond_of, conds_of, half_of};
 
+use super::many::{Item, many};
 use super::tree::{Cond, Conds, Oper};
 use cursor::{Cursor, Piece, Stop};
 use words::Terminal;
@@ -97,32 +99,35 @@ fn cond(cursor: &mut Cursor<'_>) -> Result<Cond<Piece>, Stop>
     }
 }
 
+// How a condition begins.
+const CONDS_BEGIN: [Terminal; 3] = [
+    Terminal::KeyValue,
+    Terminal::KeyValueType,
+    Terminal::KeyType,
+];
+
 fn sees_cond(cursor: &Cursor<'_>) -> bool
     ensures { result ≡ next G.conds_begin (rest cursor.now) }
 {
-    cursor.sees(&[
-        Terminal::KeyValue,
-        Terminal::KeyValueType,
-        Terminal::KeyType,
-    ])
+    cursor.sees(&CONDS_BEGIN)
+}
+
+impl Item for Cond<Piece> {
+    ghost Said = { T.Cond };
+
+    ghost reader = { G.ACond };
+
+    ghost shown = { cond_of };
+
+    fn read(cursor: &mut Cursor<'_>) -> Result<Cond<Piece>, Stop> {
+        cond(cursor)
+    }
 }
 
 fn cond_list(cursor: &mut Cursor<'_>) -> Result<Conds, Stop>
     ensures { Parses G.CondList conds_of cursor.old result cursor.new }
 {
-    let mut all = Conds::new();
-    for _ in 0..4usize {
-        all.push(cond(cursor)?);
-        if !cursor.sees(&[Terminal::Comma]) {
-            return Ok(all);
-        }
-        cursor.expect(Terminal::Comma)?;
-    }
-    if sees_cond(cursor) {
-        Err(Stop::Past)
-    } else {
-        Err(Stop::Useless)
-    }
+    many(cursor, Terminal::Comma, &CONDS_BEGIN)
 }
 
 pub fn opt_cond_list(cursor: &mut Cursor<'_>) -> Result<Conds, Stop>
