@@ -1,4 +1,4 @@
-// The conditions of a selection, one function for each production.
+// The conditions of a selection, one function for each production, so a choice between two is a function that only chooses.
 ghost use Rattle.std.specs.Prelude.{◌≡◌};
 ghost use Rattle.grammar.specs.Parse as G;
 ghost use Rattle.grammar.specs.Tree as T;
@@ -42,7 +42,7 @@ fn type_cond(cursor: &mut Cursor<'_>) -> Result<Cond<Piece>, Stop>
     Ok(Cond::Type(o, l))
 }
 
-// This and the next are a production each, and differ in the reader of the right side.
+// This and the next are a production each, and differ in the key and in the reader of the right side.
 fn val_cond(cursor: &mut Cursor<'_>) -> Result<(Oper, Piece), Stop>
     ensures { Parses G.ValCond half_of cursor.old result cursor.new }
 {
@@ -61,6 +61,7 @@ fn val_type_cond(cursor: &mut Cursor<'_>) -> Result<(Oper, Piece), Stop>
     Ok((o, l))
 }
 
+// Each order is a production of its own: one body with a choice inside costs the prover four times as much.
 fn value_first(cursor: &mut Cursor<'_>) -> Result<Cond<Piece>, Stop>
     ensures { Parses G.read_value_first cond_of cursor.old result cursor.new }
 {

@@ -1,4 +1,4 @@
-// The selections of a rule, one function for each production.
+// The selections of a rule, one function for each production, so a choice between two is a function that only chooses.
 ghost use Rattle.grammar.specs.Parse as G;
 ghost use Rattle.grammar.specs.Tree as T;
 ghost use Rattle.cursor.specs.Reading.{Parses};
