@@ -1,4 +1,4 @@
-// The right sides of assignments, one function for each production.
+// The right sides of assignments, one function for each production, so a choice between two is a function that only chooses.
 ghost use Rattle.grammar.specs.Parse as G;
 ghost use Rattle.cursor.specs.Pieces.{word_of};
 ghost use Rattle.cursor.specs.Reading.{Parses, text_of};

@@ -1,4 +1,4 @@
-// The action of a rule, one function for each production.
+// The action of a rule, one function for each production, so a choice between two is a function that only chooses.
 ghost use Rattle.grammar.specs.Parse as G;
 ghost use Rattle.cursor.specs.Reading.{Parses};
 ghost use Rattle.actions.specs.Assigned.{assigned};
@@ -38,6 +38,7 @@ fn claim_val_type_assign(cursor: &mut Cursor<'_>) -> Result<ExprRead, Stop>
     value_type_expr(cursor)
 }
 
+// Each order is a production of its own: one body with a choice inside costs the prover four times as much.
 fn value_first(cursor: &mut Cursor<'_>) -> Result<(ExprRead, ExprRead), Stop>
     ensures { Parses G.assigns_value_first two_of cursor.old result cursor.new }
 {
@@ -66,6 +67,7 @@ fn claim_value_assign(cursor: &mut Cursor<'_>) -> Result<(ExprRead, ExprRead), S
     }
 }
 
+// Here too each order is a production of its own.
 fn type_first(cursor: &mut Cursor<'_>) -> Result<ActionRead, Stop>
     ensures { Parses G.assigns_type_first action_of cursor.old result cursor.new }
 {

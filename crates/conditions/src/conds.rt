@@ -1,11 +1,13 @@
-// The conditions of a selection, one function for each production.
+// The conditions of a selection, one function for each production, so a choice between two is a function that only chooses.
 ghost use Rattle.std.specs.Prelude.{◌≡◌};
 ghost use Rattle.grammar.specs.Parse as G;
+ghost use Rattle.grammar.specs.Tree as T;
 ghost use Rattle.grammar.specs.Readers.{next};
 ghost use Rattle.cursor.specs.Pieces.{word_of};
 ghost use Rattle.cursor.specs.Reading.{Parses, rest};
 ghost use Rattle.conditions.specs.Shown.{oper_of, cond_of, conds_of, half_of};
 
+use super::many::{Item, many};
 use super::tree::{Cond, Conds, Oper};
 use cursor::{Cursor, Piece, Stop};
 use words::Terminal;
@@ -40,7 +42,7 @@ fn type_cond(cursor: &mut Cursor<'_>) -> Result<Cond<Piece>, Stop>
     Ok(Cond::Type(o, l))
 }
 
-// This and the next are a production each, and differ in the reader of the right side.
+// This and the next are a production each, and differ in the key and in the reader of the right side.
 fn val_cond(cursor: &mut Cursor<'_>) -> Result<(Oper, Piece), Stop>
     ensures { Parses G.ValCond half_of cursor.old result cursor.new }
 {
@@ -59,6 +61,7 @@ fn val_type_cond(cursor: &mut Cursor<'_>) -> Result<(Oper, Piece), Stop>
     Ok((o, l))
 }
 
+// Each order is a production of its own: one body with a choice inside costs the prover four times as much.
 fn value_first(cursor: &mut Cursor<'_>) -> Result<Cond<Piece>, Stop>
     ensures { Parses G.read_value_first cond_of cursor.old result cursor.new }
 {
@@ -97,32 +100,35 @@ fn cond(cursor: &mut Cursor<'_>) -> Result<Cond<Piece>, Stop>
     }
 }
 
+// How a condition begins.
+const CONDS_BEGIN: [Terminal; 3] = [
+    Terminal::KeyValue,
+    Terminal::KeyValueType,
+    Terminal::KeyType,
+];
+
 fn sees_cond(cursor: &Cursor<'_>) -> bool
     ensures { result ≡ next G.conds_begin (rest cursor.now) }
 {
-    cursor.sees(&[
-        Terminal::KeyValue,
-        Terminal::KeyValueType,
-        Terminal::KeyType,
-    ])
+    cursor.sees(&CONDS_BEGIN)
+}
+
+impl Item for Cond<Piece> {
+    ghost Said = { T.Cond };
+
+    ghost reader = { G.ACond };
+
+    ghost shown = { cond_of };
+
+    fn read(cursor: &mut Cursor<'_>) -> Result<Cond<Piece>, Stop> {
+        cond(cursor)
+    }
 }
 
 fn cond_list(cursor: &mut Cursor<'_>) -> Result<Conds, Stop>
     ensures { Parses G.CondList conds_of cursor.old result cursor.new }
 {
-    let mut all = Conds::new();
-    for _ in 0..4usize {
-        all.push(cond(cursor)?);
-        if !cursor.sees(&[Terminal::Comma]) {
-            return Ok(all);
-        }
-        cursor.expect(Terminal::Comma)?;
-    }
-    if sees_cond(cursor) {
-        Err(Stop::Past)
-    } else {
-        Err(Stop::Useless)
-    }
+    many(cursor, Terminal::Comma, &CONDS_BEGIN)
 }
 
 pub fn opt_cond_list(cursor: &mut Cursor<'_>) -> Result<Conds, Stop>

@@ -2,6 +2,7 @@
 #![tactic(auto)]
 
 mod conds;
+mod many;
 mod selections;
 mod tree;
 

@@ -1,9 +1,11 @@
-// The selections of a rule, one function for each production.
+// The selections of a rule, one function for each production, so a choice between two is a function that only chooses.
 ghost use Rattle.grammar.specs.Parse as G;
+ghost use Rattle.grammar.specs.Tree as T;
 ghost use Rattle.cursor.specs.Reading.{Parses};
 ghost use Rattle.conditions.specs.Shown.{conds_of, selection_of, selections_of};
 
 use super::conds::opt_cond_list;
+use super::many::{Item, many};
 use super::tree::{Conds, Selection, Selections};
 use cursor::{Cursor, Stop};
 use words::Terminal;
@@ -46,28 +48,31 @@ fn sel_condition(cursor: &mut Cursor<'_>) -> Result<Selection, Stop>
     }
 }
 
+impl Item for Selection {
+    ghost Said = { T.Selection };
+
+    ghost reader = { G.SelCondition };
+
+    ghost shown = { selection_of };
+
+    fn read(cursor: &mut Cursor<'_>) -> Result<Selection, Stop> {
+        sel_condition(cursor)
+    }
+}
+
+// How a selection begins.
+const SELECTIONS_BEGIN: [Terminal; 2] = [Terminal::OpenSquare, Terminal::Identifier];
+
 fn sel_condition_list(cursor: &mut Cursor<'_>) -> Result<Selections, Stop>
     ensures { Parses G.SelConditionList selections_of cursor.old result cursor.new }
 {
-    let mut all = Selections::new();
-    for _ in 0..4usize {
-        all.push(sel_condition(cursor)?);
-        if !cursor.sees(&[Terminal::And]) {
-            return Ok(all);
-        }
-        cursor.expect(Terminal::And)?;
-    }
-    if cursor.sees(&[Terminal::OpenSquare, Terminal::Identifier]) {
-        Err(Stop::Past)
-    } else {
-        Err(Stop::Useless)
-    }
+    many(cursor, Terminal::And, &SELECTIONS_BEGIN)
 }
 
 pub fn conditions(cursor: &mut Cursor<'_>) -> Result<Selections, Stop>
     ensures { Parses G.Conditions selections_of cursor.old result cursor.new }
 {
-    if cursor.sees(&[Terminal::OpenSquare, Terminal::Identifier]) {
+    if cursor.sees(&SELECTIONS_BEGIN) {
         sel_condition_list(cursor)
     } else {
         Ok(Selections::new())

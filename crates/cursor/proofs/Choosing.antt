@@ -9,14 +9,15 @@ use Rattle.words.specs.declared.terminals.Slip.{Slip}
 use Rattle.words.specs.declared.terminals.Terminal.{Terminal}
 use Rattle.grammar.specs.Readers.{Got, got, useless, past, Reads, return, t, ◌>>◌}
 use Rattle.cursor.specs.Ahead.{ahead_words}
-use Rattle.cursor.specs.Reading.{Reading, beside, choice, shown}
+use Rattle.cursor.specs.Reading.{Reading, Parses, Chosen, Takes, rest, text_of, stopped, beside, choice, shown}
 use Rattle.cursor.specs.Pieces.{word_of}
 use Rattle.cursor.specs.declared.ahead.Ahead.{Ahead}
 use Rattle.cursor.specs.declared.ahead.Ahead.TheVariants as ahead
+use Rattle.cursor.specs.declared.cursor.Cursor.{Cursor}
 use Rattle.cursor.specs.declared.pieces.Piece.{Piece}
 use Rattle.cursor.specs.declared.pieces.Stop.{Stop}
 use Rattle.cursor.specs.declared.pieces.Stop.TheVariants.{Useless, Past}
-use Rattle.cursor.proofs.Expecting.{look, slip_at, Wordless}
+use Rattle.cursor.proofs.Expecting.{look, slip_at}
 
 -- x in place of the word
 abbrev with : {A : Type 0} → A → Got Word → Got A
@@ -59,20 +60,25 @@ module _ {A : Type 0} where
   beside_no_word [] s = refl
   beside_no_word (e ∷ es) s = beside_no_word es s
 
-  module _ (es : List (Terminal × A)) (us : List ℕ) (a : Ahead) (p : Piece) (end : ℕ) (i : a ≡ ahead.Word p end) where
-    word_is : Reading (choice es) (ahead_words us a) (chosen (word_of us p) (from us end) (beside es (terminal p.terminal)))
-    word_is = record { so = sym (choice_is es (word_of us p) (from us end)) ∙ ap (λ z. choice es (ahead_words us z)) (sym i) }
+  took_as : (es : List (Terminal × A)) (us : List ℕ) (a : Ahead) (p : Piece) (end : ℕ) (x : A) (m : List Word) → a ≡ ahead.Word p end → Some x ≡ beside es (terminal p.terminal) → m ≡ from us end → Reading (choice es) (ahead_words us a) (got x m)
+  took_as es us a p end x m i h k = record { so = ap (got x) k ∙ ap (chosen (word_of us p) (from us end)) h ∙ sym (choice_is es (word_of us p) (from us end)) ∙ ap (λ z. choice es (ahead_words us z)) (sym i) }
 
-    pub took_as : (x : A) (r : Ahead) → Some x ≡ beside es (terminal p.terminal) → ahead_words us r ≡ from us end → Reading (choice es) (ahead_words us a) (got x (ahead_words us r))
-    took_as x r h k = record { so = ap (got x) k ∙ ap (chosen (word_of us p) (from us end)) h ∙ word_is.so }
+  left_as : (es : List (Terminal × A)) (us : List ℕ) (a : Ahead) → ((p : Piece) (end : ℕ) → a ≡ ahead.Word p end → None ≡ beside es (terminal p.terminal)) → Reading (choice es) (ahead_words us a) (useless (ahead_words us a))
+  left_as es us (ahead.Word p end) h = record { so = ap (chosen (word_of us p) (from us end)) (h p end refl) ∙ sym (choice_is es (word_of us p) (from us end)) }
+  left_as es us (ahead.Slip s at end) h = record { so = sym (choice_is es (slip_at s at) (from us end) ∙ ap (chosen (slip_at s at) (from us end)) (beside_no_word es s)) }
+  left_as es us ahead.End h = record { so = sym (choice_none es) }
 
-    pub left_as : None ≡ beside es (terminal p.terminal) → Reading (choice es) (ahead_words us a) (useless (ahead_words us a))
-    left_as h = record { so = ap (λ z. useless (ahead_words us z)) i ∙ ap (chosen (word_of us p) (from us end)) h ∙ word_is.so }
+  module _ (es : List (Terminal × A)) {R : Piece → Option A → Type 0} (old new : Cursor) (chooses : (p : Piece) (o : Option A) → R p o → o ≡ beside es (terminal p.terminal)) where
+    reads_as : (r : Result A Stop) → Chosen R old r new → Reading (choice es) (rest old) (shown (λ x. x) r (rest new))
+    unfolding rest text_of
+    reads_as (Ok x) (p, end, i, h, e) = took_as es (text_of old) old.ahead p end x (rest new) i (chooses p (Some x) h) e
+    reads_as (Err o) (u, e, n) =
+        let l = left_as es (text_of old) old.ahead (λ p end i. chooses p None (n p end i)) in
+        record { so = ap (λ z. stopped z (rest new)) u ∙ ap useless e ∙ l.so }
 
-  pub none_as : (es : List (Terminal × A)) (us : List ℕ) (a : Ahead) → Wordless a → Reading (choice es) (ahead_words us a) (useless (ahead_words us a))
-  none_as es us (ahead.Word p end) h = absurd (h p end refl)
-  none_as es us (ahead.Slip s at end) h = record { so = sym (choice_is es (slip_at s at) (from us end) ∙ ap (chosen (slip_at s at) (from us end)) (beside_no_word es s)) }
-  none_as es us ahead.End h = record { so = sym (choice_none es) }
+  pub takes_as : (es : List (Terminal × A)) {R : Piece → Option A → Type 0} {old new : Cursor} {r : Result A Stop} → Takes R old r new
+      → ((p : Piece) (o : Option A) → R p o → o ≡ beside es (terminal p.terminal)) → Parses (choice es) (λ us x. x) old r new
+  takes_as es {r = r} t chooses = record { reads = reads_as es _ _ chooses r t.chosen; text = t.text }
 
 -- what v shows of what stands in the table
 module _ {A B : Type 0} (v : A → B) where

@@ -4,13 +4,16 @@ use Rattle.units.specs.Units.{units}
 use Rattle.faults.specs.At.{fault_at}
 use Rattle.faults.specs.declared.Cause.TheVariants.{OverLimit}
 use Rattle.faults.specs.declared.Fault.{Fault}
+use Rattle.words.specs.Places.{from}
 use Rattle.words.specs.Terminals.{Kind, is}
 use Rattle.words.specs.Words.{Word}
 use Rattle.words.specs.declared.terminals.Terminal.{Terminal}
 use Rattle.grammar.specs.Readers.{Got, got, useless, past, Reads, ◌starts◌else◌, ◌>>◌, return, stop, t, first_place}
 use Rattle.grammar.specs.Whole.{fault_from}
 use Rattle.cursor.specs.Ahead.{short, ahead_words}
+use Rattle.cursor.specs.declared.ahead.Ahead.TheVariants as ahead
 use Rattle.cursor.specs.declared.cursor.Cursor.{Cursor}
+use Rattle.cursor.specs.declared.pieces.Piece.{Piece}
 use Rattle.cursor.specs.declared.pieces.Stop.{Stop}
 use Rattle.cursor.specs.declared.pieces.Stop.TheVariants.{Useless, Past}
 
@@ -38,6 +41,16 @@ pub record Reading {A : Type 0} (p : Reads A) (ws : List Word) (g : Got A) : Typ
 -- the production p gives, of the words from where a cursor stood, what v shows of a result, and the words from where it then stands in the same text
 pub record Parses {A X : Type 0} (p : Reads A) (v : List ℕ → X → A) (old : Cursor) (r : Result X Stop) (new : Cursor) : Type 0 where
   pub reads : Reading p (rest old) (shown (v (text_of old)) r (rest new))
+  pub text : text_of new ≡ text_of old
+
+-- what R says may be chosen of the next word, and then the words behind it; or a stop at the same words, where no word is next, or one of which nothing is chosen
+abbrev pub Chosen : {X : Type 0} → (Piece → Option X → Type 0) → Cursor → Result X Stop → Cursor → Type 0
+Chosen R old (Ok x) new = (p : Piece) × (end : ℕ) × (old.ahead ≡ ahead.Word p end) × R p (Some x) × (rest new ≡ from (text_of old) end)
+Chosen R old (Err e) new = (e ≡ Useless) × (rest new ≡ rest old) × ((p : Piece) (end : ℕ) → old.ahead ≡ ahead.Word p end → R p None)
+
+-- that, in the same text
+pub record Takes {X : Type 0} (R : Piece → Option X → Type 0) (old : Cursor) (r : Result X Stop) (new : Cursor) : Type 0 where
+  pub chosen : Chosen R old r new
   pub text : text_of new ≡ text_of old
 
 -- one word, which is one of these terminals

@@ -9,6 +9,7 @@ use units::run_of;
 use words::{Slip, Terminal, Token, read};
 
 // A word or what is no word, each with the place behind it; or the end of the text.
+// The words go on behind a slip, so the place behind it stands here too: no code reads it, but what is ahead is said through it.
 // Three named cases, where an Option of a Result would hold the place behind either in a pair about it.
 #[derive(Clone, Copy)]
 pub enum Ahead {
@@ -18,7 +19,7 @@ pub enum Ahead {
 }
 
 // The first 65535 units.
-pub fn short_text<'a>(text: &'a [u8]) -> &'a [u8]
+pub fn short_text(text: &[u8]) -> &[u8]
     ensures value { units result.now ≡ short (units text.now) }
     ensures bound { length (units result.now) ≤ 65535 }
 {

@@ -1,6 +1,6 @@
 // A cursor reads its text word by word, and has the next word read already.
-pub mod steps;
-pub mod stops;
+mod steps;
+mod stops;
 
 use super::ahead::Ahead;
 

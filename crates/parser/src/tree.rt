@@ -1,4 +1,4 @@
-// Rules as they are read: plain values of places in the rule text.
+// Rules as they are read, by places in the rule text.
 use actions::ActionRead;
 use arrayvec::ArrayVec;
 use conditions::Selections;

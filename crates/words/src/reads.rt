@@ -8,7 +8,7 @@ use super::units_of::is_blank;
 use units::count;
 
 // The next word from a place on, or none where no word is left.
-pub fn read<'a>(text: &'a [u8], start: usize) -> Option<Lexeme<'a>>
+pub fn read(text: &[u8], start: usize) -> Option<Lexeme<'_>>
     ensures { Reads (units text.now) start result }
 {
     if start >= count(text) {

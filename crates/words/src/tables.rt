@@ -16,6 +16,7 @@ const KEYWORDS: [(&[u8], Terminal); 5] = [
     (b"claim", Terminal::KeyClaim),
 ];
 
+// This crate stands below that of claims, so it names value types by terminals.
 const VALUE_TYPES: [(&[u8], Terminal); 4] = [
     (b"uint64", Terminal::Uint64Type),
     (b"int64", Terminal::Int64Type),

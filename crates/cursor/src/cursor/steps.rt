@@ -5,7 +5,7 @@ ghost use Rattle.words.specs.Words.{words};
 ghost use Rattle.grammar.specs.Parse as G;
 ghost use Rattle.grammar.specs.Readers.{next, t};
 ghost use Rattle.cursor.specs.Ahead.{short};
-ghost use Rattle.cursor.specs.Reading.{Parses, rest, Reading, text_of, any_of, choice};
+ghost use Rattle.cursor.specs.Reading.{Parses, rest, Reading, text_of, any_of, choice, Takes};
 ghost use Rattle.cursor.specs.Pieces.{word_of};
 
 use super::super::ahead::{Ahead, look_from};
@@ -35,32 +35,31 @@ impl<'a> Cursor<'a> {
         }
     }
 
-    // One word, which is one of these terminals.
-    pub fn expect_any(&mut self, kinds: &[Terminal]) -> Result<Piece, Stop>
-        ensures { Parses (any_of kinds.now) word_of self.old result self.new }
+    // Past the next word, for what is chosen of it; or a stop before it.
+    fn take<T, F: FnOnce(Piece) -> Option<T>>(&mut self, choose: F) -> Result<T, Stop>
+        requires { F.IsAlwaysCallable choose }
+        ensures { Takes (F.post choose) self.old result self.new }
     {
         let Ahead::Word(piece, end) = self.ahead else {
             return Err(Stop::Useless);
         };
-        if !piece.is_any(kinds) {
-            return Err(Stop::Useless);
-        }
+        let chosen = choose(piece).ok_or(Stop::Useless)?;
         self.ahead = look_from(self.text, end);
-        Ok(piece)
+        Ok(chosen)
+    }
+
+    // One word, which is one of these terminals.
+    pub fn expect_any(&mut self, kinds: &[Terminal]) -> Result<Piece, Stop>
+        ensures { Parses (any_of kinds.now) word_of self.old result self.new }
+    {
+        self.take(|piece| piece.is_any(kinds).then_some(piece))
     }
 
     // One word of a table's terminals, for what stands beside the terminal.
     pub fn expect_as<T: Copy>(&mut self, table: &[(Terminal, T)]) -> Result<T, Stop>
         ensures { Parses (choice table.now) (λ us x. x) self.old result self.new }
     {
-        let Ahead::Word(word, behind) = self.ahead else {
-            return Err(Stop::Useless);
-        };
-        let Some(value) = word.beside(table) else {
-            return Err(Stop::Useless);
-        };
-        self.ahead = look_from(self.text, behind);
-        Ok(value)
+        self.take(|piece| piece.beside(table))
     }
 
     // One word of this terminal.

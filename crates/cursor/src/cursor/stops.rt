@@ -31,7 +31,7 @@ fn units_read(text: &[u8]) -> u16
     count(short_text(text)) as u16
 }
 
-impl<'a> Cursor<'a> {
+impl Cursor<'_> {
     // The place of the next word, 0 at the end.
     #[tactic(auto, unfolding(crate::specs::Reading::rest, crate::specs::Reading::text_of))]
     pub fn place(&self) -> u16
