@@ -11,7 +11,7 @@ use cursor::Piece;
 use units::{run_of, same};
 
 // The units of a word.
-pub fn piece_text<'a>(text: &'a [u8], piece: Piece) -> &'a [u8]
+pub fn piece_text(text: &[u8], piece: Piece) -> &[u8]
     ensures { units result.now ≡ (word_of (units text.now) piece).text }
 {
     run_of(text, usize::from(piece.from), piece.len)
@@ -30,7 +30,7 @@ pub struct Names<'a> {
     pub selections: &'a Selections,
 }
 
-impl<'a> Names<'a> {
+impl Names<'_> {
     // The number from 0 of the first selection that has the identifier.
     pub fn number_of(&self, name: Piece) -> Option<u16>
         ensures { result ≡ numbered (shown self.now) (word_of (units self.now.text.now) name).text }
