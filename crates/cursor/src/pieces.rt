@@ -1,10 +1,13 @@
 // A word by places in its text, and why reading stops.
 ghost use Rattle.std.specs.Prelude.{◌≡◌, ◌+◌, ◌-◌, ◌<◌};
 ghost use Rattle.std.specs.List.{list_any};
+ghost use Rattle.units.specs.Units.{units};
 ghost use Rattle.words.specs.Terminals.{is, terminal};
+ghost use Rattle.cursor.specs.Pieces.{word_of};
 ghost use Rattle.cursor.specs.Reading.{beside};
 ghost use Rattle.words.specs.declared.terminals.Terminal.TheVariants.{Identifier};
 
+use units::run_of;
 use words::Terminal;
 
 // A word of the text: the place of its first unit, and where the units of a name or of what is quoted lie.
@@ -17,6 +20,13 @@ pub struct Piece {
 }
 
 impl Piece {
+    // Its units in the text where it is read.
+    pub fn text<'a>(&self, text: &'a [u8]) -> &'a [u8]
+        ensures { units result.now ≡ (word_of (units text.now) self.now).text }
+    {
+        run_of(text, usize::from(self.from), self.len)
+    }
+
     // Is it a word of one of these terminals?
     pub(crate) fn is_any(&self, kinds: &[Terminal]) -> bool
         ensures { result ≡ list_any (λ k. is k (terminal self.now.terminal)) kinds.now }
