@@ -8,7 +8,6 @@ ghost use Rattle.checks.specs.Earliest.{Notes};
 ghost use Rattle.checks.specs.Faults.{caused_at, side_faults, cond_faults, conds_faults};
 
 use super::earliest::Earliest;
-use super::names::piece_text;
 use conditions::{Cond, Conds, Oper};
 use cursor::Piece;
 use faults::{Cause, Fault};
@@ -17,7 +16,7 @@ use faults::{Cause, Fault};
 fn pattern_cause(text: &[u8], word: Piece) -> Option<Cause>
     ensures { result ≡ cause_of_pattern (word_of (units text.now) word).text }
 {
-    pattern::read(piece_text(text, word)).err()
+    pattern::read(word.text(text)).err()
 }
 
 impl Earliest {

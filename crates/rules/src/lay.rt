@@ -19,22 +19,24 @@ use parser::Rule;
 use parts::{Part, Quoted, Reference};
 use units::{count, run_of};
 
-fn quoted(text: &[u8], p: Piece) -> Quoted
-    ensures { result ≡ lay_quoted (word_of (units text.now) p) }
+fn quoted(text: &[u8], word: Piece) -> Quoted
+    ensures { result ≡ lay_quoted (word_of (units text.now) word) }
 {
-    let run = run_of(text, usize::from(p.from), p.len);
     Quoted {
-        at: p.at,
-        len: count(run) as u16,
+        at: word.at,
+        len: count(word.text(text)) as u16,
     }
 }
 
-fn cond(text: &[u8], c: Cond<Piece>) -> Cond<Quoted>
-    ensures { result ≡ lay_cond (cond_of (units text.now) c) }
+fn quoted_cond(text: &[u8], cond: Cond<Piece>) -> Cond<Quoted>
+    ensures { result ≡ lay_cond (cond_of (units text.now) cond) }
 {
-    match c {
-        Cond::Type(o, l) => Cond::Type(o, quoted(text, l)),
-        Cond::Value(o, l, p, m) => Cond::Value(o, quoted(text, l), p, quoted(text, m)),
+    match cond {
+        Cond::Type(oper, word) => Cond::Type(oper, quoted(text, word)),
+        Cond::Value(oper, word, type_oper, type_word) => {
+            let value = quoted(text, word);
+            Cond::Value(oper, value, type_oper, quoted(text, type_word))
+        }
     }
 }
 
