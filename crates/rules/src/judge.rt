@@ -7,7 +7,7 @@ use super::sink::Sink;
 use faults::{Cause, Fault};
 use units::first_ill_formed;
 
-impl<'a> Sink<'a> {
+impl Sink<'_> {
     // The number of rules, or the first fault.
     pub fn judge(&mut self) -> Result<u16, Fault>
         requires { Holds [] self.old }
