@@ -84,8 +84,8 @@ impl Sink<'_> {
     fn put_conds(&mut self, conds: &Conds)
         ensures { Put (lay_conds (conds_of (units self.old.text.now) conds.now)) self.old self.new }
     {
-        for c in conds.iter() {
-            self.put_cond(*c);
+        for cond in conds.iter() {
+            self.put_cond(*cond);
         }
     }
 
@@ -99,8 +99,8 @@ impl Sink<'_> {
     fn put_selections(&mut self, selections: &Selections)
         ensures { Put (lay_selections (selections_of (units self.old.text.now) selections.now)) self.old self.new }
     {
-        for s in selections.iter() {
-            self.put_selection(s);
+        for selection in selections.iter() {
+            self.put_selection(selection);
         }
     }
 
