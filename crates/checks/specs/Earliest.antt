@@ -3,6 +3,7 @@ use Rattle.std.specs.Prelude.{◌≡◌, ◌≤◌, Bool, cond, ◌&&◌, ◌||�
 use Rattle.std.specs.List.{AllByRecursion}
 use Rattle.faults.specs.Numbers.{number_of}
 use Rattle.faults.specs.declared.Fault.{Fault}
+use Rattle.checks.specs.declared.earliest.Earliest.{Earliest as Known}
 
 -- does g come before f?
 abbrev pub sooner : Fault → Fault → Bool
@@ -16,6 +17,10 @@ earlier_of (Some f) g = cond (sooner g f) g f
 abbrev pub earliest_from : Option Fault → List Fault → Option Fault
 earliest_from known [] = known
 earliest_from known (g ∷ gs) = earliest_from (Some (earlier_of known g)) gs
+
+-- these faults were noted beside the one that was known
+abbrev pub Notes : List Fault → Known → Known → Type 0
+Notes faults old new = new.known ≡ earliest_from old.known faults
 
 abbrev pub Among : List Fault → Fault → Type 0
 Among [] f = ⊥

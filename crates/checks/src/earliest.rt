@@ -22,9 +22,8 @@ impl Earliest {
     pub fn note(&mut self, fault: Fault)
         ensures { self.new.known ≡ Some (earlier_of self.old.known fault) }
     {
-        match self.known {
-            Some(known) if !is_sooner(fault, known) => {}
-            _ => self.known = Some(fault),
+        if self.known.is_none_or(|known| is_sooner(fault, known)) {
+            self.known = Some(fault);
         }
     }
 }

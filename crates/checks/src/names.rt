@@ -8,19 +8,12 @@ ghost use Rattle.checks.specs.Names.{shown};
 
 use conditions::Selections;
 use cursor::Piece;
-use units::{run_of, same};
-
-// The units of a word.
-pub fn piece_text<'a>(text: &'a [u8], piece: Piece) -> &'a [u8]
-    ensures { units result.now ≡ (word_of (units text.now) piece).text }
-{
-    run_of(text, usize::from(piece.from), piece.len)
-}
+use units::same;
 
 fn has_name(text: &[u8], own: Option<Piece>, name: Piece) -> bool
     ensures { result ≡ is_named (word_of (units text.now) name).text (option_map (word_of (units text.now)) own) }
 {
-    own.is_some_and(|own| same(piece_text(text, own), piece_text(text, name)))
+    own.is_some_and(|own| same(own.text(text), name.text(text)))
 }
 
 // The selections of a rule, and the text that their places speak of.
@@ -30,7 +23,7 @@ pub struct Names<'a> {
     pub selections: &'a Selections,
 }
 
-impl<'a> Names<'a> {
+impl Names<'_> {
     // The number from 0 of the first selection that has the identifier.
     pub fn number_of(&self, name: Piece) -> Option<u16>
         ensures { result ≡ numbered (shown self.now) (word_of (units self.now.text.now) name).text }

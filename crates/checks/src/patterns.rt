@@ -4,11 +4,10 @@ ghost use Rattle.units.specs.Units.{units};
 ghost use Rattle.cursor.specs.Pieces.{word_of};
 ghost use Rattle.conditions.specs.Shown.{oper_of, cond_of, conds_of};
 ghost use Rattle.pattern.specs.Caused.{cause_of_pattern};
-ghost use Rattle.checks.specs.Earliest.{earliest_from};
+ghost use Rattle.checks.specs.Earliest.{Notes};
 ghost use Rattle.checks.specs.Faults.{caused_at, side_faults, cond_faults, conds_faults};
 
 use super::earliest::Earliest;
-use super::names::piece_text;
 use conditions::{Cond, Conds, Oper};
 use cursor::Piece;
 use faults::{Cause, Fault};
@@ -17,42 +16,44 @@ use faults::{Cause, Fault};
 fn pattern_cause(text: &[u8], word: Piece) -> Option<Cause>
     ensures { result ≡ cause_of_pattern (word_of (units text.now) word).text }
 {
-    pattern::read(piece_text(text, word)).err()
+    pattern::read(word.text(text)).err()
 }
 
-fn note_pattern(text: &[u8], word: Piece, earliest: &mut Earliest)
-    ensures { earliest.new.known ≡ earliest_from earliest.old.known (caused_at (cause_of_pattern (word_of (units text.now) word).text) word.at) }
-{
-    if let Some(cause) = pattern_cause(text, word) {
-        earliest.note(Fault::at(cause, word.at));
-    }
-}
-
-fn note_side(text: &[u8], oper: Oper, word: Piece, earliest: &mut Earliest)
-    ensures { earliest.new.known ≡ earliest_from earliest.old.known (side_faults (oper_of (units text.now) oper) (word_of (units text.now) word)) }
-{
-    match oper {
-        Oper::Equal | Oper::NotEqual => {}
-        Oper::Matches | Oper::NotMatches => note_pattern(text, word, earliest),
-    }
-}
-
-fn note_cond(text: &[u8], cond: Cond<Piece>, earliest: &mut Earliest)
-    ensures { earliest.new.known ≡ earliest_from earliest.old.known (cond_faults (cond_of (units text.now) cond)) }
-{
-    match cond {
-        Cond::Type(oper, word) => note_side(text, oper, word, earliest),
-        Cond::Value(oper, word, type_oper, type_word) => {
-            note_side(text, oper, word, earliest);
-            note_side(text, type_oper, type_word, earliest);
+impl Earliest {
+    fn note_pattern(&mut self, text: &[u8], word: Piece)
+        ensures { Notes (caused_at (cause_of_pattern (word_of (units text.now) word).text) word.at) self.old self.new }
+    {
+        if let Some(cause) = pattern_cause(text, word) {
+            self.note(Fault::at(cause, word.at));
         }
     }
-}
 
-pub fn note_conds(text: &[u8], conds: &Conds, earliest: &mut Earliest)
-    ensures { earliest.new.known ≡ earliest_from earliest.old.known (conds_faults (conds_of (units text.now) conds.now)) }
-{
-    for cond in conds.iter() {
-        note_cond(text, *cond, earliest);
+    fn note_side(&mut self, text: &[u8], oper: Oper, word: Piece)
+        ensures { Notes (side_faults (oper_of (units text.now) oper) (word_of (units text.now) word)) self.old self.new }
+    {
+        match oper {
+            Oper::Equal | Oper::NotEqual => {}
+            Oper::Matches | Oper::NotMatches => self.note_pattern(text, word),
+        }
+    }
+
+    fn note_cond(&mut self, text: &[u8], cond: Cond<Piece>)
+        ensures { Notes (cond_faults (cond_of (units text.now) cond)) self.old self.new }
+    {
+        match cond {
+            Cond::Type(oper, word) => self.note_side(text, oper, word),
+            Cond::Value(oper, word, type_oper, type_word) => {
+                self.note_side(text, oper, word);
+                self.note_side(text, type_oper, type_word);
+            }
+        }
+    }
+
+    pub fn note_conds(&mut self, text: &[u8], conds: &Conds)
+        ensures { Notes (conds_faults (conds_of (units text.now) conds.now)) self.old self.new }
+    {
+        for cond in conds.iter() {
+            self.note_cond(text, *cond);
+        }
     }
 }

@@ -36,7 +36,7 @@ pub enum Part {
 }
 
 // The units of a quoted word.
-pub fn quoted_text<'a>(text: &'a [u8], quoted: Quoted) -> &'a [u8]
+pub fn quoted_text(text: &[u8], quoted: Quoted) -> &[u8]
     ensures { units result.now ≡ quoted_units (units text.now) quoted }
 {
     run_of(text, usize::from(quoted.at) + 1, quoted.len)

@@ -1,5 +1,5 @@
 -- One part more in a sink: what it holds, whether there was room or not.
-use Rattle.std.proofs.Common.{◌≡◌, ℕ, suc, ◌-◌, ◌<◌, ◌≤◌, ◌↔◌, true, false, Ok, Err, Result, ltb, List, [], ◌∷◌, ◌++◌, length, take, set, replicate, sym, refl, ap, ◌∙◌, subst, append_assoc, append-nil, arith}
+use Rattle.std.proofs.Common.{◌≡◌, ℕ, suc, ◌-◌, ◌<◌, ◌≤◌, ◌↔◌, true, false, Ok, Err, Result, ltb, List, [], ◌∷◌, ◌++◌, length, take, set, replicate, sym, refl, ap, ◌∙◌, subst, append_assoc, arith}
 use Rattle.std.proofs.lemmas.List.{take_all, take-append-le, set_at, length_push, length-take}
 use Rattle.std.proofs.lemmas.Bool.{lt-ltb, le-ltb}
 use Rattle.std.specs.Result.{IsOk, OnOk, OnErr, is_err}
@@ -104,9 +104,6 @@ put_twice ps qs s t u a b = record {
   same = b.same ∙ a.same;
   holds = λ os k. let e = append_assoc os ps qs in let h = b.holds (os ++ ps) (a.holds os k) in rw (← e) h;
 }
-
-pub put_none : (s : Sink) → Put [] s s
-put_none s = record { text = refl; same = refl; holds = λ os k. rw append-nil k }
 
 -- the same parts and the same sink under other names
 pub put_as : (ps qs : List Part) (s t u : Sink) → ps ≡ qs → u ≡ t → Put ps s t → Put qs s u

@@ -7,7 +7,7 @@ use Rattle.grammar.specs.Parse.{ARule, Rules, RuleSet, rules_begin}
 use Rattle.grammar.specs.Readers.{got, next}
 use Rattle.grammar.specs.Tree.{Rule}
 use Rattle.grammar.specs.Whole.{Parsed, rules}
-use Rattle.cursor.proofs.Many.{pre, pre_none}
+use Rattle.cursor.proofs.Many.{pre}
 use Rattle.cursor.specs.Reading.{Reading, stopped}
 use Rattle.cursor.specs.declared.pieces.Stop.{Stop}
 use Rattle.cursor.specs.declared.pieces.Stop.TheVariants.{Past}
@@ -20,7 +20,7 @@ use Rattle.rules.specs.Held.{Put}
 use Rattle.rules.specs.Judged.{rules_faults, sound, derived, refused}
 use Rattle.rules.specs.Read.{Ends, Reads, Took, told_of}
 use Rattle.rules.specs.declared.sink.Sink.{Sink}
-use Rattle.rules.proofs.Filling.{put_none, put_twice, put_as}
+use Rattle.rules.proofs.Filling.{put_twice, put_as}
 
 -- these rules are read, and so many may follow
 pub record SoFar (left : ℕ) (all ws : List Word) (known : Option Fault) (many : ℕ) (s t : Sink) : Type 0 where
@@ -29,9 +29,6 @@ pub record SoFar (left : ℕ) (all ws : List Word) (known : Option Fault) (many 
   pub fault : known ≡ earliest_from None (rules_faults done)
   pub count : many ≡ length done
   pub put : Put (lay_rules done) s t
-
-pub none_yet : (ws : List Word) (s : Sink) → SoFar 32 ws ws None 0 s s
-none_yet ws s = record { done = []; whole = pre_none (RuleSet ws); fault = refl; count = refl; put = put_none s }
 
 rules_faults-append : (rs : List Rule) (r : Rule) → rules_faults (rs ++ (r ∷ [])) ≡ rules_faults rs ++ rule_faults r
 rules_faults-append [] r = append-nil (rule_faults r)
@@ -53,8 +50,8 @@ module _ (left n : ℕ) (e : left ≡ suc n) (all ws : List Word) (known : Optio
   pub ends_here : false ≡ next rules_begin ws → (r : Result ℕ Fault) → r ≡ told_of known many → Ends (RuleSet all) ws s t (Ok r)
   ends_here h r k = (so.done, sym (no_rule n so.done ws h ∙ whole_at), took_all so.done known many s t so.fault so.count so.put r k)
 
-  pub stops_inside : true ≡ next rules_begin ws → (o : Stop) (m : List Word) (u : Sink) → Reading ARule ws (stopped o m) → Ends (RuleSet all) m s u (Err o)
-  stops_inside h o m u r = sym (rule_stops n so.done ws h o m r ∙ whole_at)
+  pub stops_inside : true ≡ next rules_begin ws → (o : Stop) (m : List Word) → Reading ARule ws (stopped o m) → Ends (RuleSet all) m s t (Err o)
+  stops_inside h o m r = (sym (rule_stops n so.done ws h o m r ∙ whole_at), so.put.same)
 
   pub one_further : true ≡ next rules_begin ws → (r : Rule) (m : List Word) → Reading ARule ws (got r m) → (now : Option Fault) → now ≡ earliest_from known (rule_faults r)
       → (u : Sink) → Put (lay_rule r) t u → SoFar n all m now (many + 1) s u
@@ -71,7 +68,7 @@ module _ (left : ℕ) (e : left ≡ 0) (all ws : List Word) (known : Option Faul
   whole_end = ap (λ k. pre so.done (Rules k ws)) (sym e) ∙ so.whole
 
   pub one_too_many : true ≡ next rules_begin ws → Ends (RuleSet all) ws s t (Err Past)
-  one_too_many h = sym (rule_over so.done ws h ∙ whole_end)
+  one_too_many h = (sym (rule_over so.done ws h ∙ whole_end), so.put.same)
 
   pub ends_full : false ≡ next rules_begin ws → (r : Result ℕ Fault) → r ≡ told_of known many → Ends (RuleSet all) ws s t (Ok r)
   ends_full h r k = (so.done, sym (rules_done so.done ws h ∙ whole_end), took_all so.done known many s t so.fault so.count so.put r k)
@@ -83,4 +80,4 @@ reads_told p rs s t e h (Some f) k (Ok n) i = let z : ◌≡◌ {A = ℕ} 0 1 = 
 reads_told p rs s t e h None k (Err f) i = let z : ◌≡◌ {A = ℕ} 0 1 = cc in absurd (omega arith)
 reads_told p rs s t e h (Some g) k (Err f) i =
     let z : g ≡ f = cc in
-    λ room. ap (derived room) e ∙ ap (sound room rs) (sym k) ∙ ap refused z
+    (λ room. ap (derived room) e ∙ ap (sound room rs) (sym k) ∙ ap refused z, h.same)

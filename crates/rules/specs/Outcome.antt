@@ -16,4 +16,4 @@ pub record Accepted (bytes : List ℕ) (s t : Sink) (many : ℕ) : Type 0 where
 
 abbrev pub Judges : List ℕ → Sink → Sink → Result ℕ Fault → Type 0
 Judges bytes s t (Ok n) = Accepted bytes s t n
-Judges bytes s t (Err f) = judged bytes (room_of s) ≡ refused f
+Judges bytes s t (Err f) = (judged bytes (room_of s) ≡ refused f) × (room_of t ≡ room_of s)

@@ -1,18 +1,17 @@
 // A text judged in the order of its causes, while its parts are put.
-ghost use Rattle.std.specs.Prelude.{◌≡◌, []};
-ghost use Rattle.rules.specs.Held.{Holds, room_of};
+ghost use Rattle.std.specs.Prelude.{[]};
+ghost use Rattle.rules.specs.Held.{Holds};
 ghost use Rattle.rules.specs.Outcome.{Judges};
 
 use super::sink::Sink;
 use faults::{Cause, Fault};
 use units::first_ill_formed;
 
-impl<'a> Sink<'a> {
+impl Sink<'_> {
     // The number of rules, or the first fault.
     pub fn judge(&mut self) -> Result<u16, Fault>
         requires { Holds [] self.old }
-        ensures room { room_of self.new ≡ room_of self.old }
-        ensures judges { Judges self.old.text.now self.old self.new result }
+        ensures { Judges self.old.text.now self.old self.new result }
     {
         if self.text.len() > 32768 {
             return Err(Fault::at(Cause::TextTooLong, 0));

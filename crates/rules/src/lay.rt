@@ -17,24 +17,26 @@ use conditions::{Cond, Conds, Selection, Selections};
 use cursor::Piece;
 use parser::Rule;
 use parts::{Part, Quoted, Reference};
-use units::{count, run_of};
+use units::count;
 
-fn quoted(text: &[u8], p: Piece) -> Quoted
-    ensures { result ≡ lay_quoted (word_of (units text.now) p) }
+fn quoted(text: &[u8], word: Piece) -> Quoted
+    ensures { result ≡ lay_quoted (word_of (units text.now) word) }
 {
-    let run = run_of(text, usize::from(p.from), p.len);
     Quoted {
-        at: p.at,
-        len: count(run) as u16,
+        at: word.at,
+        len: count(word.text(text)) as u16,
     }
 }
 
-fn cond(text: &[u8], c: Cond<Piece>) -> Cond<Quoted>
-    ensures { result ≡ lay_cond (cond_of (units text.now) c) }
+fn cond(text: &[u8], cond: Cond<Piece>) -> Cond<Quoted>
+    ensures { result ≡ lay_cond (cond_of (units text.now) cond) }
 {
-    match c {
-        Cond::Type(o, l) => Cond::Type(o, quoted(text, l)),
-        Cond::Value(o, l, p, m) => Cond::Value(o, quoted(text, l), p, quoted(text, m)),
+    match cond {
+        Cond::Type(oper, word) => Cond::Type(oper, quoted(text, word)),
+        Cond::Value(oper, word, type_oper, type_word) => {
+            let value = quoted(text, word);
+            Cond::Value(oper, value, type_oper, quoted(text, type_word))
+        }
     }
 }
 
@@ -47,39 +49,43 @@ fn reference(names: &Names<'_>, name: Piece) -> Reference
     }
 }
 
-fn expr(names: &Names<'_>, e: ExprRead) -> Expr<Quoted, Reference>
-    ensures { result ≡ lay_expr (shown names.now) (expr_of (units names.now.text.now) e) }
+fn expr(names: &Names<'_>, expr: ExprRead) -> Expr<Quoted, Reference>
+    ensures { result ≡ lay_expr (shown names.now) (expr_of (units names.now.text.now) expr) }
 {
-    match e {
-        Expr::Literal(p) => Expr::Literal(quoted(names.text, p)),
-        Expr::ValueType(p) => Expr::ValueType(quoted(names.text, p)),
-        Expr::TypeOf(p) => Expr::TypeOf(reference(names, p)),
-        Expr::ValueOf(p) => Expr::ValueOf(reference(names, p)),
-        Expr::ValueTypeOf(p) => Expr::ValueTypeOf(reference(names, p)),
+    match expr {
+        Expr::Literal(word) => Expr::Literal(quoted(names.text, word)),
+        Expr::ValueType(word) => Expr::ValueType(quoted(names.text, word)),
+        Expr::TypeOf(name) => Expr::TypeOf(reference(names, name)),
+        Expr::ValueOf(name) => Expr::ValueOf(reference(names, name)),
+        Expr::ValueTypeOf(name) => Expr::ValueTypeOf(reference(names, name)),
     }
 }
 
-fn action(names: &Names<'_>, a: ActionRead) -> Action<Quoted, Reference>
-    ensures { result ≡ lay_action (shown names.now) (action_of (units names.now.text.now) a) }
+fn action(names: &Names<'_>, action: ActionRead) -> Action<Quoted, Reference>
+    ensures { result ≡ lay_action (shown names.now) (action_of (units names.now.text.now) action) }
 {
-    match a {
-        Action::Copy(p) => Action::Copy(reference(names, p)),
-        Action::New(n, v, y) => Action::New(expr(names, n), expr(names, v), expr(names, y)),
+    match action {
+        Action::Copy(name) => Action::Copy(reference(names, name)),
+        Action::New(claim_type, value, value_type) => Action::New(
+            expr(names, claim_type),
+            expr(names, value),
+            expr(names, value_type),
+        ),
     }
 }
 
-impl<'a> Sink<'a> {
-    fn put_cond(&mut self, c: Cond<Piece>)
-        ensures { Put (part.Condition (lay_cond (cond_of (units self.old.text.now) c)) ∷ []) self.old self.new }
+impl Sink<'_> {
+    fn put_cond(&mut self, asked: Cond<Piece>)
+        ensures { Put (part.Condition (lay_cond (cond_of (units self.old.text.now) asked)) ∷ []) self.old self.new }
     {
-        self.put(Part::Condition(cond(self.text, c)));
+        self.put(Part::Condition(cond(self.text, asked)));
     }
 
     fn put_conds(&mut self, conds: &Conds)
         ensures { Put (lay_conds (conds_of (units self.old.text.now) conds.now)) self.old self.new }
     {
-        for c in conds.iter() {
-            self.put_cond(*c);
+        for cond in conds.iter() {
+            self.put_cond(*cond);
         }
     }
 
@@ -93,8 +99,8 @@ impl<'a> Sink<'a> {
     fn put_selections(&mut self, selections: &Selections)
         ensures { Put (lay_selections (selections_of (units self.old.text.now) selections.now)) self.old self.new }
     {
-        for s in selections.iter() {
-            self.put_selection(s);
+        for selection in selections.iter() {
+            self.put_selection(selection);
         }
     }
 

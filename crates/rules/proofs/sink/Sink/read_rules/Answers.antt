@@ -23,7 +23,7 @@ returns-in_err-r-clause-reads c =
     let i = c.loop-i.i in
     let z : 32 - i ≡ suc (31 - i) = omega arith in
     let p = err_from_is_err_and c.from_residual.result c.from_residual.ensures.1 in
-    rw (p.1, p.2) (stops_inside (32 - i) (31 - i) z (rest c.args.cursor.now) (rest c.loop-i.cursor) c.loop-i.fault i c.args.self.now c.loop-i.self c.loop-i.invariant.1 c.if-not-begins_rule.ensures c.in_err-r.field-0.0 (rest c.rule.new.cursor) c.loop-i.self c.in_err-r.ensures.reads)
+    rw (p.1, p.2) (stops_inside (32 - i) (31 - i) z (rest c.args.cursor.now) (rest c.loop-i.cursor) c.loop-i.fault i c.args.self.now c.loop-i.self c.loop-i.invariant.1 c.if-not-begins_rule.ensures c.in_err-r.field-0.0 (rest c.rule.new.cursor) c.in_err-r.ensures.reads)
 
 pub loop-i-preserved : goal.loop-i-preserved
 loop-i-preserved c =
