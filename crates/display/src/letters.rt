@@ -13,15 +13,15 @@ use units::Units;
 pub fn is_hidden(c: char) -> bool
     ensures { result ≡ hidden c }
 {
-    match c {
-        '\0'..='\u{1F}' => true,
-        '\u{7F}'..='\u{9F}' => true,
-        '\u{200E}'..='\u{200F}' => true,
-        '\u{2028}'..='\u{202E}' => true,
-        '\u{2066}'..='\u{2069}' => true,
-        '\u{FEFF}' => true,
-        _ => false,
-    }
+    matches!(
+        c,
+        '\0'..='\u{1F}'
+            | '\u{7F}'..='\u{9F}'
+            | '\u{200E}'..='\u{200F}'
+            | '\u{2028}'..='\u{202E}'
+            | '\u{2066}'..='\u{2069}'
+            | '\u{FEFF}'
+    )
 }
 
 // Does the character mean itself in a bare word?
