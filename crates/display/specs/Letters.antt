@@ -1,5 +1,9 @@
 -- Characters as they are shown: which are hidden behind an escape, which stand in a bare word, and how an escape is written.
 use Rattle.std.specs.Prelude.{◌≡◌, ℕ, ◌-◌, ◌^◌, Bool, false, true, not, ◌&&◌, ◌||◌, List, [], ◌∷◌, ◌++◌, Some, None, Option, Ok, Err, Result, codes, ◌==◌, nat_le}
+use Rattle.std.specs.declared.iter.Ahead.{Ahead}
+use Rattle.std.specs.Iterator.Adapters.{peekable_peeked, peekable_source}
+use Rattle.units.specs.Units.{units}
+use Rattle.units.specs.declared.Units.{Units}
 use Rattle.std.specs.Fmt.{digits, format_spec, padded_integral}
 use Rattle.listing.specs.Letters.{blank, utf16}
 
@@ -20,6 +24,23 @@ Letter us (Err u) vs = us ≡ u ∷ vs
 abbrev pub FirstLetter : List ℕ → Option (Result ℕ ℕ) → List ℕ → Type 0
 FirstLetter us None vs = (us ≡ []) × (vs ≡ [])
 FirstLetter us (Some x) vs = Letter us x vs
+
+-- the units that are still to come, where one of them was looked at already, or the end was
+abbrev pub with_seen : Option (Option ℕ) → List ℕ → List ℕ
+with_seen None us = us
+with_seen (Some None) us = us
+with_seen (Some (Some u)) us = u ∷ us
+
+abbrev pub units_left : Ahead Units ℕ → List ℕ
+units_left s = with_seen (peekable_peeked s) (units (peekable_source s).rest.now)
+
+-- no units come after the end was seen
+abbrev pub after_end : Option (Option ℕ) → List ℕ → List ℕ
+after_end (Some None) us = us
+after_end o us = []
+
+abbrev pub IsEnded : Ahead Units ℕ → Type 0
+IsEnded s = after_end (peekable_peeked s) (units (peekable_source s).rest.now) ≡ []
 
 -- a unit as an escape: four hex digits, the letters among them capitals
 abbrev pub escape : ℕ → List ℕ

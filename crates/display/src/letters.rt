@@ -1,27 +1,28 @@
 // Characters, one by one, as they are shown.
-ghost use Rattle.std.specs.Prelude.{◌≡◌, [], ◌∷◌, ◌++◌, IfSome, OnOk, length, string_bytes};
+ghost use Rattle.std.specs.Prelude.{◌≡◌, ◌++◌, OnOk, length, string_bytes};
+ghost use Rattle.std.specs.Char.Utf16.{decode_utf16_units};
 ghost use Rattle.std.specs.Iterator.{at_most};
 ghost use Rattle.units.specs.Units.{units};
-ghost use Rattle.listing.specs.Letters.{utf16};
-ghost use Rattle.display.specs.Letters.{hidden, plain, escape, FirstLetter};
+ghost use Rattle.display.specs.Letters.{hidden, plain, escape, FirstLetter, IsEnded, units_left};
 
 use listing::is_blank;
 use std::alloc::AllocError;
+use std::char::DecodeUtf16;
 use units::Units;
 
 // Would the character be invisible or turn the line? Then an escape stands for it.
 pub fn is_hidden(c: char) -> bool
     ensures { result ≡ hidden c }
 {
-    match c {
-        '\0'..='\u{1F}' => true,
-        '\u{7F}'..='\u{9F}' => true,
-        '\u{200E}'..='\u{200F}' => true,
-        '\u{2028}'..='\u{202E}' => true,
-        '\u{2066}'..='\u{2069}' => true,
-        '\u{FEFF}' => true,
-        _ => false,
-    }
+    matches!(
+        c,
+        '\0'..='\u{1F}'
+            | '\u{7F}'..='\u{9F}'
+            | '\u{200E}'..='\u{200F}'
+            | '\u{2028}'..='\u{202E}'
+            | '\u{2066}'..='\u{2069}'
+            | '\u{FEFF}'
+    )
 }
 
 // Does the character mean itself in a bare word?
@@ -31,31 +32,20 @@ pub fn is_plain(c: char) -> bool
     !is_hidden(c) && !is_blank(c) && !matches!(c, '"' | '\\' | '#')
 }
 
-// The character that two units are together, if they are the halves of a pair.
-fn joined(high: u16, low: u16) -> Option<char>
-    ensures { IfSome result (λ c. utf16 c ≡ high ∷ low ∷ []) }
-{
-    if !matches!((high, low), (0xD800..=0xDBFF, 0xDC00..=0xDFFF)) {
-        return None;
-    }
-    let ten_high = u32::from(high - 0xD800);
-    let ten_low = u32::from(low - 0xDC00);
-    char::from_u32(0x10000 + ten_high * 1024 + ten_low)
-}
-
-// The characters of a text, and each unit that is half of a pair alone.
-// The kit's decode_utf16 would give them too, but no function here would then promise which character two halves are.
-#[derive(Clone, Copy)]
+// The characters of a text, and each unit that is half of a pair alone: what the library's decoder gives, said of the text's units.
+// The decoder looks a unit ahead; `ended` says that nothing is left where it has seen the end.
+#[derive(Drop)]
 pub struct Letters<'a> {
-    units: Units<'a>,
+    units: DecodeUtf16<Units<'a>>,
+    pub ghost ended: { IsEnded (decode_utf16_units units) },
 }
 
 impl<'a> Letters<'a> {
     pub fn of(text: &'a [u8]) -> Letters<'a>
-        ensures { units result.units.rest.now ≡ units text.now }
+        ensures { units_left (decode_utf16_units result.units) ≡ units text.now }
     {
         Letters {
-            units: Units::of(text),
+            units: char::decode_utf16(Units::of(text)),
         }
     }
 }
@@ -63,19 +53,13 @@ impl<'a> Letters<'a> {
 impl<'a> Iterator for Letters<'a> {
     type Item = Result<char, u16>;
 
-    ghost next_gives = { λ s r t. FirstLetter (units s.units.rest.now) r (units t.units.rest.now) };
+    ghost next_gives = { λ s r t. FirstLetter (units_left (decode_utf16_units s.units)) r (units_left (decode_utf16_units t.units)) };
 
-    ghost remaining = { λ s. at_most (length (units s.units.rest.now)) };
+    ghost remaining = { λ s. at_most (length (units_left (decode_utf16_units s.units))) };
 
     fn next(&mut self) -> Option<Result<char, u16>> {
-        let first = self.units.next()?;
-        let mut after = self.units;
-        let second = after.next();
-        if let Some(c) = second.and_then(|low| joined(first, low)) {
-            self.units = after;
-            return Some(Ok(c));
-        }
-        Some(char::from_u32(u32::from(first)).ok_or(first))
+        let letter = self.units.next()?;
+        Some(letter.map_err(|half| half.unpaired_surrogate()))
     }
 }
 

@@ -61,6 +61,7 @@ impl ClaimsList {
 }
 
 // A field's text behind the others.
+// What was put before stays inside the longer text: so each function down to this one says `longer`, which no type can say of a text that grows.
 fn put_text(text: &mut UnitText, field: &Field) -> Result<Text, Stop>
     ensures grown { OnOk result (text.new.bytes.items ≡ text.old.bytes.items ++ field.now.text.bytes.items) }
     ensures longer { vec_len text.old.bytes ≤ vec_len text.new.bytes }
@@ -87,20 +88,12 @@ fn put_value(text: &mut UnitText, kind: ValueType, field: &Field) -> Result<Valu
 {
     let units = field.text().bytes();
     match kind {
-        ValueType::Uint64 => {
-            let number = unsigned(units).map_err(|mistake| field.stop(mistake))?;
-            Ok(Value::Uint64(number))
-        }
-        ValueType::Int64 => {
-            let number = signed(units).map_err(|mistake| field.stop(mistake))?;
-            Ok(Value::Int64(number))
-        }
-        ValueType::Boolean => {
-            let truth = boolean(units).map_err(|mistake| field.stop(mistake))?;
-            Ok(Value::Boolean(truth))
-        }
-        ValueType::String => Ok(Value::String(put_text(text, field)?)),
+        ValueType::Uint64 => unsigned(units).map(Value::Uint64),
+        ValueType::Int64 => signed(units).map(Value::Int64),
+        ValueType::Boolean => boolean(units).map(Value::Boolean),
+        ValueType::String => return put_text(text, field).map(Value::String),
     }
+    .map_err(|mistake| field.stop(mistake))
 }
 
 // The claim of a line whose type begins here.

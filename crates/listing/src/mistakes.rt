@@ -1,6 +1,7 @@
 // What can be wrong with a line of a claims list, and where.
 ghost use Rattle.std.specs.Prelude.{◌≡◌, ◌++◌, codes, decimal, Some};
 ghost use Rattle.listing.specs.Words.{words_of};
+ghost use Rattle.listing.specs.declared.mistakes.Stop.TheVariants.{Memory};
 
 use std::alloc::{AllocError, AllocFailed};
 use std::fmt;
@@ -46,18 +47,24 @@ pub enum Stop {
     At(Mistake, usize),
 }
 
+// By hand, as the other: nobody is told a `Stop`, so it has no message as thiserror's derive asks for, and what the derive writes has no contract.
 impl From<AllocError> for Stop {
+    ghost from_gives = { λ _ e. e ≡ Memory };
+
     fn from(_e: AllocError) -> Stop {
         Stop::Memory
     }
 }
 
 impl<T: Drop> From<AllocFailed<T>> for Stop {
+    ghost from_gives = { λ _ e. e ≡ Memory };
+
     fn from(_e: AllocFailed<T>) -> Stop {
         Stop::Memory
     }
 }
 
+// The words stand here, and `Display` pads them: the clauses of both name the text, and a derived `Display` has no clause.
 impl Mistake {
     pub fn words(self) -> &'static str
         ensures { result.now ≡ words_of self }

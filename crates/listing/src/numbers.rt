@@ -67,6 +67,7 @@ pub fn signed(text: &[u8]) -> Result<i64, Mistake>
 }
 
 // true or 1, false or 0, in any case.
+// No table as of the value types: four names of two values are asked in no more lines than a table of them and its search take.
 pub fn boolean(text: &[u8]) -> Result<bool, Mistake>
     ensures { result ≡ boolean_of (units text.now) }
 {

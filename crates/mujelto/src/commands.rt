@@ -6,6 +6,7 @@ use display::{accepted, misplaced, refused, size_line, table};
 use faults::Fault;
 use packet::{Packet, check};
 use packing::{PackError, is_written_back, pack};
+use std::alloc::AllocError;
 use std::rt::Files;
 
 // The line of a refusal on the standard output.
@@ -50,7 +51,7 @@ fn pack_file(
             write_packet(rt, packet, bytes.as_slice())?;
             show(rt, packet)
         }
-        Err(PackError::Memory) => Err(Failure::Memory),
+        Err(PackError::Memory) => Err(Failure::Memory(AllocError)),
         Err(PackError::Line(found)) => Err(Failure::Line(misplaced(heap, list, found)?)),
         Err(PackError::Refused(fault)) => refusal(rt, fault),
     }

@@ -1,29 +1,24 @@
 // What ends a command early, and how it is told.
 use std::alloc::AllocError;
-use std::{fmt, io};
+use std::io;
+use thiserror::Error;
 
-#[derive(Drop)]
+// Each is told by whole lines, for the standard error.
+#[derive(Debug, Drop, Error)]
 pub enum Failure {
     // A fault that the output has told already.
+    #[error("")]
     Refused,
     // A line to tell.
+    #[error("{0}\n")]
     Line(String),
     // A line to tell, and then the usage.
+    #[error("{0}\n{usage}", usage = USAGE)]
     Usage(String),
-    Memory,
-    Output(io::Error),
-}
-
-impl From<AllocError> for Failure {
-    fn from(_e: AllocError) -> Failure {
-        Failure::Memory
-    }
-}
-
-impl From<io::Error> for Failure {
-    fn from(e: io::Error) -> Failure {
-        Failure::Output(e)
-    }
+    #[error("mujelto: out of memory\n")]
+    Memory(#[from(alloc)] AllocError),
+    #[error("mujelto: {0}\n")]
+    Output(#[from] io::Error),
 }
 
 pub const USAGE: &str =
@@ -31,16 +26,3 @@ pub const USAGE: &str =
        mujelto show PACKET          checks a packet, and lists its claims
        mujelto help                 prints this
 ";
-
-// Whole lines, for the standard error.
-impl fmt::Display for Failure {
-    fn fmt<W: fmt::Write>(&self, f: &mut fmt::Formatter<W>) -> fmt::Result {
-        match self {
-            Failure::Refused => Ok(()),
-            Failure::Line(line) => writeln!(f, "{line}"),
-            Failure::Usage(line) => write!(f, "{line}\n{USAGE}"),
-            Failure::Memory => writeln!(f, "mujelto: out of memory"),
-            Failure::Output(error) => writeln!(f, "mujelto: {error}"),
-        }
-    }
-}

@@ -10,26 +10,32 @@ const PACKET_FRONT: u64 = 32769;
 
 const LIST_LIMIT: u64 = 1048576;
 
+fn named(heap: Global, path: &str, error: io::Error) -> Failure {
+    format!(in heap; "{path}: {error}").map_or_else(Failure::from, Failure::Line)
+}
+
 fn front(rt: &(impl Files + AllocGlobal), path: &str, limit: u64) -> io::Result<Vec<u8>> {
     let mut bytes = Vec::new(rt.alloc());
     fs::open(rt, path)?.take(limit).read_to_end(&mut bytes)?;
     Ok(bytes)
 }
 
-fn named(heap: Global, path: &str, error: io::Error) -> Failure {
-    match format!(in heap; "{path}: {error}") {
-        Ok(line) => Failure::Line(line),
-        Err(error) => Failure::from(error),
-    }
+// The front of a file, or a line that names the file.
+fn named_front(
+    rt: &(impl Files + AllocGlobal),
+    path: &str,
+    limit: u64,
+) -> Result<Vec<u8>, Failure> {
+    front(rt, path, limit).map_err(|error| named(rt.alloc(), path, error))
 }
 
 pub fn read_packet(rt: &(impl Files + AllocGlobal), path: &str) -> Result<Vec<u8>, Failure> {
-    front(rt, path, PACKET_FRONT).map_err(|error| named(rt.alloc(), path, error))
+    named_front(rt, path, PACKET_FRONT)
 }
 
 // A claims list of at most 1 MiB.
 pub fn read_list(rt: &(impl Files + AllocGlobal), path: &str) -> Result<Vec<u8>, Failure> {
-    let bytes = front(rt, path, LIST_LIMIT + 1).map_err(|error| named(rt.alloc(), path, error))?;
+    let bytes = named_front(rt, path, LIST_LIMIT + 1)?;
     if bytes.len() as u64 > LIST_LIMIT {
         return Err(Failure::Line(format!(in rt.alloc();
             "{path}: a claims list has at most {LIST_LIMIT} bytes"

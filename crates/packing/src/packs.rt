@@ -1,6 +1,8 @@
 // The packet of a claims list.
 ghost use Rattle.std.specs.Prelude.{◌≡◌, ◌≤◌, true, length, take, is_ok, IfOk};
 ghost use Rattle.packet.specs.Judge.{judge};
+ghost use Rattle.packing.specs.Errors.{of_list};
+ghost use Rattle.packing.specs.declared.packs.PackError.TheVariants.{Memory, Refused};
 
 use claims::{Listed, Texts};
 use faults::Fault;
@@ -20,12 +22,16 @@ pub enum PackError {
 }
 
 impl From<AllocError> for PackError {
+    ghost from_gives = { λ _ e. e ≡ Memory };
+
     fn from(_e: AllocError) -> PackError {
         PackError::Memory
     }
 }
 
 impl From<ListError> for PackError {
+    ghost from_gives = { λ e r. r ≡ of_list e };
+
     fn from(e: ListError) -> PackError {
         match e {
             ListError::Memory => PackError::Memory,
@@ -35,6 +41,8 @@ impl From<ListError> for PackError {
 }
 
 impl From<Fault> for PackError {
+    ghost from_gives = { λ fault e. e ≡ Refused fault };
+
     fn from(fault: Fault) -> PackError {
         PackError::Refused(fault)
     }
@@ -57,6 +65,7 @@ pub fn pack(heap: Global, list: &[u8]) -> Result<Vec<u8>, PackError>
     ensures { IfOk result (λ v. is_ok (judge v.items) ≡ true) }
 {
     let list = read(heap, list)?;
+    // The writer writes into memory that it is lent, so the vector is made full, and cut to what was written.
     let mut packet = vec![in heap; 0u8; LARGEST]?;
     let size = pack_into(&list, packet.as_mut_slice())?;
     packet.truncate(size);

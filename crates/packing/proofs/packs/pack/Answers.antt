@@ -1,4 +1,4 @@
-use Rattle.std.proofs.Common.{length, arith}
+use Rattle.std.proofs.Common.{arith}
 use Rattle.packing.proofs.Written.{accepted_front}
 use Rattle.packing.proofs.packs.pack.Goals as goal
 
