@@ -5,7 +5,7 @@ use Rattle.std.specs.Iterator.Adapters.{peekable_peeked, peekable_source}
 use Rattle.units.specs.Units.{units}
 use Rattle.units.specs.declared.Units.{Units}
 use Rattle.std.specs.Fmt.{digits, format_spec, padded_integral}
-use Rattle.listing.specs.Letters.{blank, utf16}
+use Rattle.notation.specs.Letters.{blank, utf16}
 
 -- control characters, line and paragraph separators, marks of direction, and the byte order mark
 abbrev pub hidden : ℕ → Bool

@@ -5,7 +5,7 @@ ghost use Rattle.std.specs.Iterator.{at_most};
 ghost use Rattle.units.specs.Units.{units};
 ghost use Rattle.display.specs.Letters.{hidden, plain, escape, FirstLetter, IsEnded, units_left};
 
-use listing::is_blank;
+use notation::is_blank;
 use std::alloc::AllocError;
 use std::char::DecodeUtf16;
 use units::Units;

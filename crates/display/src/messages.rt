@@ -2,7 +2,7 @@
 ghost use Rattle.std.specs.Prelude.{◌≡◌, ◌++◌, IfOk, string_bytes, codes, decimal};
 ghost use Rattle.faults.specs.Numbers.{number_of};
 ghost use Rattle.faults.specs.Words.{words_of};
-ghost use Rattle.listing.specs.Words.{words_of as mistake_words};
+ghost use Rattle.notation.specs.Words.{words_of as mistake_words};
 
 use faults::Fault;
 use listing::Misplaced;

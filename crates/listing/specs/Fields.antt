@@ -1,7 +1,7 @@
 -- The characters of a bare word, and bytes that are whole units.
 use Rattle.std.specs.Prelude.{◌≡◌, ℕ, Bool, not, ◌&&◌, List, ◌==◌}
 use Rattle.units.specs.Units.{unit_bytes}
-use Rattle.listing.specs.Letters.{blank}
+use Rattle.notation.specs.Letters.{blank}
 
 -- a character of a bare word: no blank and no quotation mark
 abbrev pub bare : ℕ → Bool

@@ -4,9 +4,8 @@ ghost use Rattle.units.specs.Form.{well_formed};
 ghost use Rattle.units.specs.Units.{units};
 ghost use Rattle.listing.specs.Fields.{bare};
 
-use super::letters::{escape_unit, hex_unit, is_blank};
-use super::mistakes::{Mistake, Stop};
-use super::texts::{UnitText, spell};
+use super::mistakes::Stop;
+use notation::{Mistake, UnitText, escape_unit, hex_unit, is_blank, spell};
 use std::alloc::Global;
 use units::is_well_formed;
 
@@ -85,7 +84,8 @@ impl<'a> Line<'a> {
     }
 
     pub fn skip_blanks(&mut self) {
-        self.run(is_blank);
+        // A function of another crate has no proof here as a value: hence the closure.
+        self.run(|c| is_blank(c));
     }
 
     // The unit of an escape, behind its backslash.

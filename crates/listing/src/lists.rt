@@ -5,10 +5,9 @@ ghost use Rattle.listing.specs.Fields.{Whole};
 ghost use Rattle.listing.specs.Inside.{TextInside, ValueInside, Inside, AllInside, AllInside-prop};
 
 use super::fields::{Field, Line};
-use super::mistakes::{ListError, Misplaced, Mistake, Stop};
-use super::numbers::{boolean, signed, unsigned};
-use super::texts::UnitText;
+use super::mistakes::{ListError, Misplaced, Stop};
 use claims::{Claim, Origin, Text, Value, ValueType, value_type};
+use notation::{Mistake, UnitText, boolean, signed, unsigned};
 use std::alloc::Global;
 
 const MOST_CLAIMS: usize = 256;

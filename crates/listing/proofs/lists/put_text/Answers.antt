@@ -1,6 +1,6 @@
 use Rattle.std.proofs.Common.{◌≡◌, ◌++◌, length, ap, ◌∙◌, arith}
 use Rattle.listing.proofs.Placed.{stands}
-use Rattle.listing.proofs.Spelt.{whole_even}
+use Rattle.notation.proofs.Spelt.{whole_even}
 use Rattle.listing.proofs.lists.put_text.Goals as goal
 
 pub returns-clause-stands : goal.returns-clause-stands

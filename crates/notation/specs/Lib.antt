@@ -1,0 +1,3 @@
+pub mod Words
+pub mod Letters
+pub mod Numbers
