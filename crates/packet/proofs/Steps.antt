@@ -21,10 +21,10 @@ pub need_some : {X : Type 0} (o : Option X) (x : X) → Ok x ≡ need o ClaimPas
 need_some None x e = let z : ◌≡◌ {A = ℕ} 0 1 = cc in absurd (omega arith)
 need_some (Some y) x e = let is : y ≡ x = cc in ap Some is
 
--- the cause that `ok_or` gives
-pub cause_is : {X : Type 0} (o : Option X) (m f : Cause) → ◌≡◌ {A = Result X Cause} (Err f) (ok_or o m) → o ≡ None → f ≡ m
-cause_is None m f e n = cc
-cause_is (Some k) m f e n = let z : ◌≡◌ {A = ℕ} 0 1 = cc in absurd (omega arith)
+-- the error that `ok_or` gives
+pub err_is : {X E : Type 0} (o : Option X) (m f : E) → ◌≡◌ {A = Result X E} (Err f) (ok_or o m) → o ≡ None → f ≡ m
+err_is None m f e n = cc
+err_is (Some k) m f e n = let z : ◌≡◌ {A = ℕ} 0 1 = cc in absurd (omega arith)
 
 module _ (bs : List ℕ) (at : ℕ) (t : Text) (ft : Lies bs at t) (it : text_in (drop at bs) ≡ Some (held_text bs t)) where
   past_type : drop (size_of_text (held_text bs t)) (drop at bs) ≡ drop (after_text t) bs

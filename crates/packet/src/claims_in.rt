@@ -1,7 +1,7 @@
 // The claims of a packet, one after the other, and the first fault among them.
 ghost use Rattle.std.specs.Prelude.{◌≡◌, drop, IfOk};
-ghost use Rattle.packet.specs.Held.{held_value, held_claim, meant, past as past_claim, InsideValue, InsideClaim, ClaimLies};
 ghost use Rattle.std.specs.Iterator.{YieldsFirst, item_count};
+ghost use Rattle.packet.specs.Held.{held_value, held_claim, meant, past as past_claim, InsideValue, InsideClaim, ClaimLies};
 ghost use Rattle.packet.specs.Judge.{well_formed_value, well_formed_claim, one_claim_in, walk, judge, counted};
 ghost use Rattle.packet.specs.Turns.{turns};
 

@@ -1,6 +1,8 @@
 // Packets that are refused: the cause and the place of the first fault.
 use faults::{Cause, Fault};
 use packet::check;
+use std::alloc::{AllocError, Global};
+use std::test::Fail;
 
 // A boolean claim with an empty type: 17 bytes.
 const CLAIM: &[u8] = b"\x00\x07\x00b\x00o\x00o\x00l\x00e\x00a\x00n\x01";
@@ -97,24 +99,22 @@ fn each_claim_fault_at_its_claim(rt: HostRuntime) {
     );
 }
 
-// The first n bytes of two claims, with the length as it was or as it would be.
-fn cut_to(buffer: &mut [u8], n: usize, mended: bool) {
-    if n > buffer.len() || n > TWO.len() {
-        return;
-    }
-    buffer[0..n].copy_from_slice(&TWO[0..n]);
-    if mended && n >= 3 {
-        head(buffer, (n - 3) as u16);
-    }
+// The first n bytes of two claims.
+fn cut_to(n: u16) -> &'static [u8] {
+    TWO.get(..usize::from(n)).unwrap_or(TWO)
 }
 
-fn cut_judged(n: usize, mended: bool) -> Result<(), Fault> {
-    let mut cut = [0u8; 64];
-    cut_to(&mut cut, n, mended);
-    judged(&cut[0..n.min(64)])
+// The same, with the length as it would be where there is one.
+fn mended_judged(heap: Global, n: u16) -> Result<Result<(), Fault>, AllocError> {
+    let mut cut = Vec::new(heap);
+    cut.extend_from_slice(cut_to(n))?;
+    if n >= 3 {
+        head(cut.as_mut_slice(), n - 3);
+    }
+    Ok(judged(cut.as_slice()))
 }
 
-fn expected(n: usize) -> Result<(), Fault> {
+fn expected(n: u16) -> Result<(), Fault> {
     match n {
         0..=2 => refused(Cause::NotAPacket, 0),
         3 | 27 | 46 => Ok(()),
@@ -125,67 +125,54 @@ fn expected(n: usize) -> Result<(), Fault> {
 
 // Cut anywhere but behind a claim, the claim that is cut runs past the end.
 #[test]
-fn cut_at_every_byte(rt: HostRuntime) {
+fn cut_at_every_byte(rt: HostRuntime) -> Result<(), Fail> {
     assert_eq!(rt; TWO.len(), 46);
     for n in 0..47 {
-        assert_eq!(rt; cut_judged(n, true), expected(n));
+        assert_eq!(rt; mended_judged(rt.alloc(), n)?, expected(n));
         if n >= 3 && n < 46 {
-            assert_eq!(rt; cut_judged(n, false), refused(Cause::LengthMismatch, 1));
+            assert_eq!(rt; judged(cut_to(n)), refused(Cause::LengthMismatch, 1));
         }
     }
+    Ok(())
 }
 
-// A text of so many units "a", in a buffer of zeros.
-fn put_text(buffer: &mut [u8], at: usize, units: usize) -> usize {
-    let n = units.min(255);
-    if at > 40000 || at + 1 + 2 * n > buffer.len() {
-        return at;
+// A text of so many units "a".
+fn push_text(packet: &mut Vec<u8>, units: u8) -> Result<(), AllocError> {
+    packet.push(units)?;
+    for _ in 0..units {
+        packet.extend_from_slice(b"\x00a")?;
     }
-    buffer[at] = n as u8;
-    for unit in buffer[at + 1..at + 1 + 2 * n].chunks_exact_mut(2) {
-        if let [_, low] = unit {
-            *low = 0x61;
-        }
-    }
-    at + 1 + 2 * n
+    Ok(())
 }
 
-fn put(buffer: &mut [u8], at: usize, bytes: &[u8]) -> usize {
-    if at > 40000 || bytes.len() > 100 || at + bytes.len() > buffer.len() {
-        return at;
-    }
-    let to = at + bytes.len();
-    buffer[at..to].copy_from_slice(bytes);
-    to
-}
-
-// 31 claims of 1035 bytes and two of 340: 32765 bytes in all.
-fn fill_whole(buffer: &mut [u8]) -> usize {
-    let mut at = 3;
+// 31 claims of 1035 bytes and two of 340: 32765 bytes in all, behind a head that says so.
+fn longest(heap: Global) -> Result<Vec<u8>, AllocError> {
+    let mut packet = Vec::new(heap);
+    packet.extend_from_slice(b"\x01\x7f\xfd")?;
     for _ in 0..31 {
-        at = put_text(buffer, at, 255);
-        at = put(buffer, at, b"\x06\x00s\x00t\x00r\x00i\x00n\x00g");
-        at = put_text(buffer, at, 255);
+        push_text(&mut packet, 255)?;
+        packet.extend_from_slice(b"\x06\x00s\x00t\x00r\x00i\x00n\x00g")?;
+        push_text(&mut packet, 255)?;
     }
     for _ in 0..2 {
-        at = put_text(buffer, at, 159);
-        at = put(
-            buffer,
-            at,
+        push_text(&mut packet, 159)?;
+        packet.extend_from_slice(
             b"\x06\x00u\x00i\x00n\x00t\x006\x004\x00\x00\x00\x00\x00\x00\x00\x05",
-        );
+        )?;
     }
-    at
+    Ok(packet)
 }
 
 #[test]
-fn the_longest_packet(rt: HostRuntime) {
-    let mut whole = [0u8; 32768];
-    head(&mut whole, 32765);
-    assert_eq!(rt; fill_whole(&mut whole), 32768);
-    assert_eq!(rt; judged(&whole), Ok(()));
-    let mut over = [0u8; 32769];
-    head(&mut over, 32766);
-    assert_eq!(rt; fill_whole(&mut over), 32768);
-    assert_eq!(rt; judged(&over), refused(Cause::LengthMismatch, 1));
+fn the_longest_packet(rt: HostRuntime) -> Result<(), Fail> {
+    let mut packet = longest(rt.alloc())?;
+    assert_eq!(rt; packet.len(), 32768);
+    assert_eq!(rt; judged(packet.as_slice()), Ok(()));
+    packet.push(0)?;
+    head(packet.as_mut_slice(), 32766);
+    assert_eq!(rt;
+        judged(packet.as_slice()),
+        refused(Cause::LengthMismatch, 1)
+    );
+    Ok(())
 }

@@ -1,5 +1,5 @@
 -- A record is writable when its parts fit and its word names the value's type.
-use Rattle.std.proofs.Common.{◌≡◌, ℕ, Bool, false, List, [], Some, None, Decides, Option, unwrap_or, sym, refl, ap, ◌∙◌, subst, arith}
+use Rattle.std.proofs.Common.{◌≡◌, ℕ, Bool, List, [], Some, None, Decides, Option, unwrap_or, sym, refl, ap, ◌∙◌, subst, arith}
 use Rattle.std.specs.Option.{option_map}
 use Rattle.claims.specs.Claims.{onward, text_of, value_of, claim_of}
 use Rattle.claims.specs.Meaning as meaning
@@ -10,7 +10,6 @@ use Rattle.claims.specs.declared.values.Value.{Value}
 use Rattle.claims.specs.declared.values.Value.TheVariants.{Uint64, Int64, String, Boolean}
 use Rattle.packet.specs.Carriable.{Short, Fits}
 use Rattle.writer.specs.Shown.{Writable, shown_text, shown_value, shown_claim, TextFits, ValueTextFits, PartsFit, Names}
-use Rattle.writer.proofs.Texts.{never}
 
 clash : {X Y : Type 0} (x : Y) → ◌≡◌ {A = Option Y} None (Some x) → X
 clash x e = let z : ◌≡◌ {A = ℕ} 0 1 = cc in absurd (omega arith)
@@ -108,6 +107,3 @@ module _ (rules packet : List ℕ) where
         let to : Names w (shown_value rules packet c.value) → Names (shown_text rules packet c.word) (shown_value rules packet c.value) = subst (λ x. Names x (shown_value rules packet c.value)) is in
         let from : Names (shown_text rules packet c.word) (shown_value rules packet c.value) → Names w (shown_value rules packet c.value) = subst (λ x. Names x (shown_value rules packet c.value)) (sym is) in
         (λ y. parts_writable f (to (d.0 y)), λ m. d.1 (from (writable_names m)))
-
-    pub unwritable : (PartsFit rules packet c → ⊥) → Decides false (Writable rules packet c)
-    unwritable no' = never (λ m. no' (writable_parts m))

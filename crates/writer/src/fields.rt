@@ -31,7 +31,7 @@ fn write_part(out: &mut [u8], text: Text, texts: &Texts) -> usize
     ensures size { result ≡ size_of_text (shown_text texts.now.rules.now texts.now.packet.now text) }
     ensures bytes { out.new ≡ written out.old 0 (encode_text (shown_text texts.now.rules.now texts.now.packet.now text)) }
 {
-    write_text(out, bytes_of(texts, text))
+    write_text(out, bytes_of(text, texts))
 }
 
 // Eight bytes, high byte first.

@@ -20,10 +20,7 @@ fn is_short(text: &[u8]) -> bool
 fn text_fits(text: Text, texts: &Texts) -> bool
     ensures { IsTrue result ↔ TextFits texts.now.rules.now texts.now.packet.now text }
 {
-    let Some(part) = texts.part(text) else {
-        return false;
-    };
-    is_short(part.bytes)
+    texts.part(text).is_some_and(|part| is_short(part.bytes))
 }
 
 fn value_fits(value: Value, texts: &Texts) -> bool
@@ -52,8 +49,5 @@ fn parts_fit(claim: Claim, texts: &Texts) -> bool
 pub fn is_writable(claim: Claim, texts: &Texts) -> bool
     ensures { IsTrue result ↔ Writable texts.now.rules.now texts.now.packet.now claim }
 {
-    if !parts_fit(claim, texts) {
-        return false;
-    }
-    names(bytes_of(texts, claim.word), claim.value)
+    parts_fit(claim, texts) && names(bytes_of(claim.word, texts), claim.value)
 }

@@ -7,22 +7,19 @@ ghost use Rattle.writer.specs.Shown.{shown_text, shown_value, shown_claim};
 use claims::{Claim, Text, Texts, Value};
 
 // The bytes of a text; none where it lies outside.
-pub fn bytes_of<'a>(texts: &Texts<'a>, text: Text) -> &'a [u8]
+pub fn bytes_of<'a>(text: Text, texts: &Texts<'a>) -> &'a [u8]
     ensures text { units result.now ≡ shown_text texts.now.rules.now texts.now.packet.now text }
     ensures even { length result.now ≡ 2 * length (units result.now) }
     ensures short { length result.now ≤ 131070 }
 {
-    match texts.part(text) {
-        Some(part) => part.bytes,
-        None => b"",
-    }
+    texts.part(text).map_or(b"", |part| part.bytes)
 }
 
 pub fn text_size(text: Text, texts: &Texts) -> usize
     ensures value { result ≡ size_of_text (shown_text texts.now.rules.now texts.now.packet.now text) }
     ensures bound { result ≤ 131071 }
 {
-    1 + bytes_of(texts, text).len()
+    1 + bytes_of(text, texts).len()
 }
 
 pub fn value_size(value: Value, texts: &Texts) -> usize

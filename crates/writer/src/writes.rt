@@ -23,9 +23,7 @@ fn write_head(out: &mut [u8], n: usize)
 pub fn write<S: Source>(source: &S, texts: &Texts, out: &mut [u8]) -> Result<usize, Fault>
     ensures { Wrote texts.now.rules.now texts.now.packet.now (S.Source.list source.now) out.old out.new result }
 {
-    let Some(size) = body_size(source, texts) else {
-        return Err(Fault::at(Cause::UncarriableClaim, 0));
-    };
+    let size = body_size(source, texts).ok_or(Fault::at(Cause::UncarriableClaim, 0))?;
     if source.count() > 256 || size > 32765 {
         return Err(Fault::at(Cause::PacketTooLarge, 0));
     }
@@ -37,6 +35,7 @@ pub fn write<S: Source>(source: &S, texts: &Texts, out: &mut [u8]) -> Result<usi
     Ok(3 + size)
 }
 
+// The bytes are a parameter, since a clause can speak of a parameter and not of what a call in the body gives.
 fn write_back(packet: &Packet, bytes: &[u8], out: &mut [u8]) -> Result<usize, Fault>
     requires { bytes.now ≡ packet.now.bytes.now }
     ensures { Rewrote bytes.now out.old out.new result }

@@ -1,12 +1,6 @@
-use Rattle.std.proofs.Common.{arith}
-use Rattle.writer.proofs.Texts.{shown_part, even_units}
+use Rattle.std.proofs.Common.{ap, rules}
+use Rattle.writer.proofs.Texts.{even_of}
 use Rattle.writer.proofs.shown.bytes_of.Goals as goal
 
-pub returns-in-Some : goal.returns-in-Some
-returns-in-Some c =
-    let e = c.in-Some.ensures.size in
-    record {
-      text = shown_part c.args.texts.now.rules.now c.args.texts.now.packet.now c.args.text c.in-Some.part.bytes.now c.in-Some.ensures.bytes;
-      even = even_units c.in-Some.part.bytes.now c.args.text.len e.0;
-      short = omega (arith, e.0, e.1);
-    }
+pub returns-clause-even : goal.returns-clause-even
+returns-clause-even c = even_of c.part.result c.args.text.len (λ p. p.bytes.now) c.map_or.result.now c.part.ensures.size c.map_or.ensures (λ d. ap (λ b. b.now) d) (λ x h. search rules)

@@ -3,7 +3,7 @@ use Rattle.std.proofs.lemmas.Result.{err_from_is_err_and}
 use Rattle.faults.specs.declared.Cause.TheVariants.{UnknownValueType}
 use Rattle.units.specs.Units.{units}
 use Rattle.claims.specs.Meaning.{named}
-use Rattle.packet.proofs.Steps.{need_some, cause_is, named_none, value_fails, claim_unsound, claim_there}
+use Rattle.packet.proofs.Steps.{need_some, err_is, named_none, value_fails, claim_unsound, claim_there}
 use Rattle.packet.proofs.fields.Bytes.claim_at.Goals as goal
 
 pub returns-in_err-kind-clause-means : goal.returns-in_err-kind-clause-means
@@ -14,7 +14,7 @@ returns-in_err-kind-clause-means c =
     let says = sym (c.value_type.ensures ∙ ap (λ z. named (units z)) c.part.ensures) in
     let e = named_none bs c.args.at c.in_ok-typ.typ c.in_ok-typ.ensures.lies it c.past_text.result c.past_text.ensures c.in_ok-word.word c.in_ok-word.ensures.lies iw (says ∙ c.in_err-kind.ensures.ok_part) in
     let p = err_from_is_err_and c.from_residual-in_err-kind.result c.from_residual-in_err-kind.ensures.1 in
-    rw (p.1, p.2) (ap Err (cause_is c.value_type.result UnknownValueType c.in_err-kind.field-0.0 c.in_err-kind.ensures.value c.in_err-kind.ensures.ok_part) ∙ sym e)
+    rw (p.1, p.2) (ap Err (err_is c.value_type.result UnknownValueType c.in_err-kind.field-0.0 c.in_err-kind.ensures.value c.in_err-kind.ensures.ok_part) ∙ sym e)
 
 pub returns-in_err-value-clause-means : goal.returns-in_err-value-clause-means
 returns-in_err-value-clause-means c =

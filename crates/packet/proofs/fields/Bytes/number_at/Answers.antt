@@ -1,6 +1,6 @@
 use Rattle.std.proofs.lemmas.Result.{err_from_is_err_and}
 use Rattle.faults.specs.declared.Cause.TheVariants.{ClaimPastEnd}
-use Rattle.packet.proofs.Steps.{cause_is}
+use Rattle.packet.proofs.Steps.{err_is}
 use Rattle.std.proofs.Common.{Err, ap}
 use Rattle.std.proofs.Common.{◌≡◌, ◌-◌, ◌≤◌, ◌<◌, ◌∙◌, take, drop, length, Ok, leb, sym, arith}
 use Rattle.std.proofs.lemmas.List.{length-drop, take_all}
@@ -16,7 +16,7 @@ returns-in_err-eight c =
     let w : take (length bs - at) (drop at bs) ≡ drop at bs = take_all (length bs - at) (drop at bs) (omega arith) in
     let k : length (take (length bs - at) (drop at bs)) < 8 = rw c.in_err-eight.ensures.ok_part at c.first_chunk.ensures.cases in
     let short : length (drop at bs) < 8 = omega (arith, ap length w) in
-    let is = cause_is c.first_chunk.result ClaimPastEnd c.in_err-eight.field-0.0 c.in_err-eight.ensures.value c.in_err-eight.ensures.ok_part in
+    let is = err_is c.first_chunk.result ClaimPastEnd c.in_err-eight.field-0.0 c.in_err-eight.ensures.value c.in_err-eight.ensures.ok_part in
     let p = err_from_is_err_and c.from_residual.result c.from_residual.ensures.1 in
     rw (p.1, p.2) (record { value = ap Err is ∙ sym (cond-false (leb 8 (length (drop at bs))) _ _ (lt-leb 8 _ short)); inside = tt })
 

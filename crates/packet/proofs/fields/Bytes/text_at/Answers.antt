@@ -1,6 +1,6 @@
 use Rattle.std.proofs.lemmas.Result.{err_from_is_err_and}
 use Rattle.faults.specs.declared.Cause.TheVariants.{ClaimPastEnd}
-use Rattle.packet.proofs.Steps.{cause_is}
+use Rattle.packet.proofs.Steps.{err_is}
 use Rattle.std.proofs.Common.{Err, ap}
 use Rattle.std.proofs.Common.{◌≤◌, ◌∙◌, length, arith}
 use Rattle.std.proofs.lemmas.Grind.{common_steps}
@@ -11,7 +11,7 @@ pub returns-in_err-n : goal.returns-in_err-n
 returns-in_err-n c =
     let bs = c.args.self.now.bytes.now in
     let h : length bs ≤ c.args.at = grind (arith, common_steps, rw c.in_err-n.ensures.ok_part at c.get.ensures.lookup) in
-    let is = cause_is c.get.result ClaimPastEnd c.in_err-n.field-0.0 c.in_err-n.ensures.value c.in_err-n.ensures.ok_part in
+    let is = err_is c.get.result ClaimPastEnd c.in_err-n.field-0.0 c.in_err-n.ensures.value c.in_err-n.ensures.ok_part in
     let p = err_from_is_err_and c.from_residual.result c.from_residual.ensures.1 in
     rw (p.1, p.2) (record { means = ap Err is ∙ no_text bs c.args.at (text_none bs c.args.at h); lies = tt })
 
