@@ -10,5 +10,7 @@ pub struct Rule {
     pub action: ActionRead,
 }
 
-// At most 32 rules.
-pub type Rules = ArrayVec<Rule, 32>;
+// As many rules as a text may have.
+pub const MAX_RULES: usize = 32;
+
+pub type Rules = ArrayVec<Rule, MAX_RULES>;
