@@ -3,7 +3,7 @@ use actions::ActionRead;
 use arrayvec::ArrayVec;
 use conditions::Selections;
 
-#[derive(Default, Drop)]
+#[derive(Clone, Default, Drop)]
 pub struct Rule {
     pub at: u16,
     pub selections: Selections,
