@@ -35,7 +35,7 @@ impl<W: Default> Default for Cond<W> {
 // At most four conditions.
 pub type Conds = ArrayVec<Cond<Piece>, 4>;
 
-#[derive(Default, Drop)]
+#[derive(Clone, Default, Drop)]
 pub struct Selection {
     pub name: Option<Piece>,
     pub conds: Conds,

@@ -1,5 +1,6 @@
 -- A parser that is exact for a relation, and that the combinators keep that.
 use Rattle.std.proofs.Common.{◌≡◌, ℕ, Bool, true, false, cond, not, ◌&&◌, ◌||◌, eqb, ◌⊎◌, List, [], ◌∷◌, ◌++◌, sym, refl, ap, ◌∙◌, subst, inl, inr, ⊎_elim, append_assoc, append-nil, arith, eq-eqb, true-eqb}
+use Rattle.std.proofs.lemmas.Bool.{and_parts, not-true, or_cases, or_right}
 use Rattle.words.specs.Words.{Word}
 use Rattle.words.specs.Terminals.{Kind, terminal, unreadable, mark, is}
 use Rattle.words.specs.declared.terminals.Terminal.{Terminal}
@@ -282,23 +283,11 @@ abbrev pub disjoint : List Terminal → List Terminal → Bool
 disjoint ks [] = true
 disjoint ks (j ∷ js) = without j ks && disjoint ks js
 
-both_true : (b c : Bool) → b && c ≡ true → (b ≡ true) × (c ≡ true)
-both_true true c h = (refl, h)
-both_true false c h = let z : ◌≡◌ {A = ℕ} 0 1 = cc in absurd (omega arith)
-
-is_not : (b : Bool) → not b ≡ true → b ≡ false
-is_not true h = sym h
-is_not false h = refl
-
 none_of : (j : Terminal) (ks : List Terminal) (w : Word) (ws : List Word) → without j ks ≡ true → is j w.kind ≡ true → next ks (w ∷ ws) ≡ false
 none_of j [] w ws d h = refl
 none_of j (k ∷ ks) w ws d h =
-    let (e, r) = both_true _ _ d in
-    ap (λ b. b || next ks (w ∷ ws)) (apart j k w.kind (is_not _ e) h) ∙ none_of j ks w ws r h
-
-pub one_of_two : (b c : Bool) → b || c ≡ true → (b ≡ true) ⊎ (c ≡ true)
-one_of_two true c h = inl refl
-one_of_two false c h = inr h
+    let (e, r) = and_parts _ _ d in
+    ap (λ b. b || next ks (w ∷ ws)) (apart j k w.kind (not-true _ e) h) ∙ none_of j ks w ws r h
 
 pub not_both : {b : Bool} → b ≡ true → b ≡ false → ⊥
 not_both e h = let z : ◌≡◌ {A = Bool} true false = sym e ∙ h in let n : ◌≡◌ {A = ℕ} 0 1 = cc in omega arith
@@ -311,22 +300,18 @@ pub no_others : (ks js : List Terminal) (ws : List Word) → disjoint ks js ≡ 
 no_others ks [] ws d h = absurd (not_both h refl)
 no_others ks (j ∷ js) [] d h = nothing_next ks
 no_others ks (j ∷ js) (w ∷ ws) d h =
-    let (e, r) = both_true _ _ d in
-    ⊎_elim (λ i. none_of j ks w ws e i) (λ n. no_others ks js (w ∷ ws) r n) (one_of_two _ _ h)
-
-pub or_true : (b c : Bool) → c ≡ true → b || c ≡ true
-or_true true c e = refl
-or_true false c e = e
+    let (e, r) = and_parts _ _ d in
+    ⊎_elim (λ i. none_of j ks w ws e i) (λ n. no_others ks js (w ∷ ws) r n) (or_cases _ _ h)
 
 pub into_left : (ks js : List Terminal) (ws : List Word) → next ks ws ≡ true → next (ks ++ js) ws ≡ true
 into_left [] js ws h = absurd (not_both h refl)
 into_left (k ∷ ks) js [] h = h
-into_left (k ∷ ks) js (w ∷ ws) h = ⊎_elim (λ i. ap (λ b. b || next (ks ++ js) (w ∷ ws)) i) (λ n. or_true _ _ (into_left ks js (w ∷ ws) n)) (one_of_two _ _ h)
+into_left (k ∷ ks) js (w ∷ ws) h = ⊎_elim (λ i. ap (λ b. b || next (ks ++ js) (w ∷ ws)) i) (λ n. or_right _ _ (into_left ks js (w ∷ ws) n)) (or_cases _ _ h)
 
 pub into_right : (ks js : List Terminal) (ws : List Word) → next js ws ≡ true → next (ks ++ js) ws ≡ true
 into_right [] js ws h = h
 into_right (k ∷ ks) js [] h = absurd (not_both h (nothing_next js))
-into_right (k ∷ ks) js (w ∷ ws) h = or_true _ _ (into_right ks js (w ∷ ws) h)
+into_right (k ∷ ks) js (w ∷ ws) h = or_right _ _ (into_right ks js (w ∷ ws) h)
 
 pub any : Terminal → Word
 any k = record { kind = terminal k; at = 0; text = [] }

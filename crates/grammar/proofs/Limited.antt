@@ -1,6 +1,7 @@
 -- The productions with limits, up to the whole text.
 use Rattle.std.proofs.Common.{◌≡◌, ℕ, zero, suc, ◌≤◌, Bool, true, false, cond, ◌||◌, List, [], ◌∷◌, ◌++◌, length, Some, None, sym, refl, ap, ◌∙◌, subst, inr, ⊎_elim, append_assoc, append-nil, arith}
 use Rattle.std.specs.List.{AllByRecursion}
+use Rattle.std.proofs.lemmas.Bool.{or_cases, or_right}
 use Rattle.words.specs.Words.{Word}
 use Rattle.words.specs.declared.terminals.Terminal.{Terminal}
 use Rattle.words.specs.declared.terminals.Terminal.TheVariants.{Imply, Semicolon, Colon, Comma, And, OpenSquare, CloseSquare, OpenRound, CloseRound, Equal, Assign, KeyIssue, KeyClaim, KeyType, KeyValue, KeyValueType, Identifier, Literal, Int64Type}
@@ -13,7 +14,7 @@ use Rattle.grammar.specs.Grammar as G
 use Rattle.grammar.specs.Grammar.{Is, Listed}
 use Rattle.grammar.specs.Exact.{Begins, Never, Beyond, too_many, inside, later, CondPast, PastInSelection, in_bare, in_named, SelectionPast, SelectionWithin}
 use Rattle.grammar.proofs.Steps.{useless_got, past_got, past_useless, useless_same, past_same, pick, way, next_first, first}
-use Rattle.grammar.proofs.Good.{Mode, kept, free, Rel, One, one, Ret, ret, Seq, seq, Map, mapped, Alt, left, right, PastSeq, in_first, in_second, PastAlt, in_left, in_right, Good, Lost, More, Among, any, any_is, word, returned, put, row, alt, same, no_others, disjoint, not_both, one_of_two, nothing_next, or_true}
+use Rattle.grammar.proofs.Good.{Mode, kept, free, Rel, One, one, Ret, ret, Seq, seq, Map, mapped, Alt, left, right, PastSeq, in_first, in_second, PastAlt, in_left, in_right, Good, Lost, More, Among, any, any_is, word, returned, put, row, alt, same, no_others, disjoint, not_both, nothing_next}
 use Rattle.grammar.proofs.Plain.{a_cond, rule_action}
 
 abbrev pub Kept : Mode → Type 0 → Type 0
@@ -203,9 +204,9 @@ begins_cond w h =
     ⊎_elim (λ e. record { more = _; says = _; holds = G.of_value (G.value_first (value (record { told = e })) (any_is Comma) (kind (any_is KeyValueType))) })
     (λ n.
     ⊎_elim (λ e. record { more = _; says = _; holds = G.of_value (G.value_type_first (kind (record { told = e })) (any_is Comma) (value (any_is KeyValue))) })
-    (λ o. ⊎_elim (λ e. record { more = _; says = _; holds = G.of_type (G.type_is (record { told = e }) (G.an_eq (any_is Equal)) (G.a_literal (any_is Literal))) }) (λ z. absurd (not_both z refl)) (one_of_two _ _ o))
-    (one_of_two _ _ n))
-    (one_of_two _ _ h)
+    (λ o. ⊎_elim (λ e. record { more = _; says = _; holds = G.of_type (G.type_is (record { told = e }) (G.an_eq (any_is Equal)) (G.a_literal (any_is Literal))) }) (λ z. absurd (not_both z refl)) (or_cases _ _ o))
+    (or_cases _ _ n))
+    (or_cases _ _ h)
   where
     value : {v : Word} → Is KeyValue v → G.ValCond (v ∷ any Equal ∷ any Literal ∷ []) (Tree.eq, any Literal)
     value i = G.value_is i (G.an_eq (any_is Equal)) (G.a_literal (any_is Literal))
@@ -219,8 +220,8 @@ a_body i = G.in_brackets i G.no_conds (any_is CloseSquare)
 begins_selection : (w : Word) → next selections_begin (w ∷ []) ≡ true → Begins G.SelCondition (w ∷ [])
 begins_selection w h =
     ⊎_elim (λ e. record { more = _; says = _; holds = G.bare (a_body (record { told = e })) })
-    (λ n. ⊎_elim (λ e. record { more = _; says = _; holds = G.named (record { told = e }) (any_is Colon) (a_body (any_is OpenSquare)) }) (λ z. absurd (not_both z refl)) (one_of_two _ _ n))
-    (one_of_two _ _ h)
+    (λ n. ⊎_elim (λ e. record { more = _; says = _; holds = G.named (record { told = e }) (any_is Colon) (a_body (any_is OpenSquare)) }) (λ z. absurd (not_both z refl)) (or_cases _ _ n))
+    (or_cases _ _ h)
 
 an_action : G.RuleAction (any KeyIssue ∷ any OpenRound ∷ any KeyClaim ∷ any Assign ∷ any Identifier ∷ any CloseRound ∷ []) (Tree.copy (any Identifier))
 an_action = G.issue (any_is KeyIssue) (any_is OpenRound) (G.claim_copy (any_is KeyClaim) (any_is Assign) (any_is Identifier)) (any_is CloseRound)
@@ -229,10 +230,10 @@ pub begins_rule : (w : Word) → next rules_begin (w ∷ []) ≡ true → Begins
 begins_rule w h =
     ⊎_elim (λ e. selected (begins_selection w (ap (λ b. b || next (Identifier ∷ []) (w ∷ [])) e)))
     (λ n.
-    ⊎_elim (λ e. selected (begins_selection w (or_true _ _ (ap (λ b. b || false) e))))
-    (λ o. ⊎_elim (λ e. record { more = _; says = _; holds = G.rule_body G.no_selections (record { told = e }) an_action (any_is Semicolon) }) (λ z. absurd (not_both z refl)) (one_of_two _ _ o))
-    (one_of_two _ _ n))
-    (one_of_two _ _ h)
+    ⊎_elim (λ e. selected (begins_selection w (or_right _ _ (ap (λ b. b || false) e))))
+    (λ o. ⊎_elim (λ e. record { more = _; says = _; holds = G.rule_body G.no_selections (record { told = e }) an_action (any_is Semicolon) }) (λ z. absurd (not_both z refl)) (or_cases _ _ o))
+    (or_cases _ _ n))
+    (or_cases _ _ h)
   where
     selected : Begins G.SelCondition (w ∷ []) → Begins G.ARule (w ∷ [])
     selected b = record { more = _; says = _; holds = G.rule_body (G.selections (Listed.one b.holds)) (any_is Imply) an_action (any_is Semicolon) }

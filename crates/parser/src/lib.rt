@@ -8,4 +8,4 @@ mod tree;
 
 pub use parses::parse;
 pub use rules::{begins_rule, rule};
-pub use tree::{Rule, Rules};
+pub use tree::{MAX_RULES, Rule, Rules};

@@ -5,7 +5,7 @@ ghost use Rattle.grammar.specs.Readers.{next};
 ghost use Rattle.cursor.specs.Reading.{Parses, rest};
 ghost use Rattle.parser.specs.Shown.{body_of, rule_of, rules_of};
 
-use super::tree::{Rule, Rules};
+use super::tree::{MAX_RULES, Rule, Rules};
 use actions::{ActionRead, rule_action};
 use conditions::{Selections, conditions};
 use cursor::{Cursor, Stop};
@@ -44,7 +44,7 @@ pub fn rules(cursor: &mut Cursor<'_>) -> Result<Rules, Stop>
     ensures { Parses G.RuleSet rules_of cursor.old result cursor.new }
 {
     let mut all = Rules::new();
-    for _ in 0..32usize {
+    for _ in 0..MAX_RULES {
         if !begins_rule(cursor) {
             return Ok(all);
         }

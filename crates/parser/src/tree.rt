@@ -3,12 +3,14 @@ use actions::ActionRead;
 use arrayvec::ArrayVec;
 use conditions::Selections;
 
-#[derive(Default, Drop)]
+#[derive(Clone, Default, Drop)]
 pub struct Rule {
     pub at: u16,
     pub selections: Selections,
     pub action: ActionRead,
 }
 
-// At most 32 rules.
-pub type Rules = ArrayVec<Rule, 32>;
+// As many rules as a text may have.
+pub const MAX_RULES: usize = 32;
+
+pub type Rules = ArrayVec<Rule, MAX_RULES>;
