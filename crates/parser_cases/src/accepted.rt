@@ -2,46 +2,65 @@
 use super::wide::{parsed, repeated, told};
 use actions::Action;
 use conditions::Cond;
+use parser::Rules;
+use std::alloc::{AllocError, Global};
+use std::test::Fail;
 
 #[test]
-fn how_many_rules(rt: HostRuntime) {
-    assert_eq!(rt; told(b""), Ok(0));
-    assert_eq!(rt; told(b" \n\t\r"), Ok(0));
-    assert_eq!(rt; told(b"C1:[]=> ISSUE(Claim=C1);"), Ok(1));
+fn how_many_rules(rt: HostRuntime) -> Result<(), Fail> {
+    assert_eq!(rt; told(rt.alloc(), b"")?, Ok(0));
+    assert_eq!(rt; told(rt.alloc(), b" \n\t\r")?, Ok(0));
+    assert_eq!(rt; told(rt.alloc(), b"C1:[]=> ISSUE(Claim=C1);")?, Ok(1));
     assert_eq!(rt;
-        told(b"C1:[type != \"Type1\"] => ISSUE (Claim = C1);"),
+        told(rt.alloc(), b"C1:[type != \"Type1\"] => ISSUE (Claim = C1);")?,
         Ok(1)
     );
     assert_eq!(rt;
-        told(b"a:[]&&[]&&[]&&b:[]=>issue(claim=a);=>issue(claim=a);"),
+        told(
+            rt.alloc(),
+            b"a:[]&&[]&&[]&&b:[]=>issue(claim=a);=>issue(claim=a);"
+        )?,
         Ok(2)
     );
-    assert_eq!(rt; repeated(b"=>issue(claim=a);", 32, 32), Ok(32));
+    assert_eq!(rt; repeated(rt.alloc(), b"=>issue(claim=a);", 32, 32)?, Ok(32));
+    Ok(())
 }
 
 #[test]
-fn every_order_of_an_assignment(rt: HostRuntime) {
+fn every_order_of_an_assignment(rt: HostRuntime) -> Result<(), Fail> {
     assert_eq!(rt;
-        told(b"=> issue(type=\"a\", value=\"0\", valuetype=\"Boolean\");"),
+        told(
+            rt.alloc(),
+            b"=> issue(type=\"a\", value=\"0\", valuetype=\"Boolean\");"
+        )?,
         Ok(1)
     );
     assert_eq!(rt;
-        told(b"=> issue(type=\"a\", valuetype=\"int64\", value=\"0\");"),
+        told(
+            rt.alloc(),
+            b"=> issue(type=\"a\", valuetype=\"int64\", value=\"0\");"
+        )?,
         Ok(1)
     );
     assert_eq!(rt;
-        told(b"=> issue(value=c.value, valuetype=c.valuetype, type=c.type);"),
+        told(
+            rt.alloc(),
+            b"=> issue(value=c.value, valuetype=c.valuetype, type=c.type);"
+        )?,
         Ok(1)
     );
     assert_eq!(rt;
-        told(b"=> issue(valuetype=c.valuetype, value=\"string\", type=\"uint64\");"),
+        told(
+            rt.alloc(),
+            b"=> issue(valuetype=c.valuetype, value=\"string\", type=\"uint64\");"
+        )?,
         Ok(1)
     );
+    Ok(())
 }
 
 // The place of the first condition's right side, where its units lie, and the place of the claim that is copied.
-fn places(text: &[u8]) -> Option<(u16, u16, u16, u16)> {
-    let rules = parsed(text).ok()?;
+fn places_in(rules: &Rules) -> Option<(u16, u16, u16, u16)> {
     let rule = rules.first()?;
     match (rule.selections.first()?.conds.first()?, rule.action) {
         (Cond::Type(_, right), Action::Copy(claim)) => {
@@ -51,11 +70,23 @@ fn places(text: &[u8]) -> Option<(u16, u16, u16, u16)> {
     }
 }
 
+fn places(alloc: Global, text: &[u8]) -> Result<Option<(u16, u16, u16, u16)>, AllocError> {
+    Ok(
+        parsed(alloc, text)?
+            .ok()
+            .and_then(|rules| places_in(&rules)),
+    )
+}
+
 #[test]
-fn places_of_a_rule(rt: HostRuntime) {
+fn places_of_a_rule(rt: HostRuntime) -> Result<(), Fail> {
     assert_eq!(rt;
-        places(b" C1:[type != \"Type1\"] => ISSUE (Claim = C1);"),
+        places(
+            rt.alloc(),
+            b" C1:[type != \"Type1\"] => ISSUE (Claim = C1);"
+        )?,
         Some((13, 14, 5, 40))
     );
-    assert_eq!(rt; places(b"C1:[]=> ISSUE(Claim=C1);"), None);
+    assert_eq!(rt; places(rt.alloc(), b"C1:[]=> ISSUE(Claim=C1);")?, None);
+    Ok(())
 }

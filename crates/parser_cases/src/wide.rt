@@ -1,44 +1,40 @@
 // Texts in ASCII as units, and what is told of them.
-use faults::{Cause, Fault};
+use faults::Fault;
 use parser::{Rules, parse};
+use std::alloc::{AllocError, Global};
 
 // Each byte is the second of its unit, and the first is 0.
-fn widen(text: &[u8], wide: &mut [u8]) {
-    for (unit, byte) in wide.chunks_exact_mut(2).zip(text) {
-        unit[1] = *byte;
+fn widened(alloc: Global, text: &[u8]) -> Result<Vec<u8>, AllocError> {
+    let mut wide = Vec::new(alloc);
+    for byte in text {
+        wide.push(0)?;
+        wide.push(*byte)?;
     }
+    Ok(wide)
 }
 
 // The rules, or the fault.
-pub fn parsed(text: &[u8]) -> Result<Rules, Fault> {
-    let mut wide = [0u8; 2048];
-    if text.len() > 1024 {
-        return Err(Fault::at(Cause::TextTooLong, 0));
-    }
-    widen(text, &mut wide);
-    let end = 2 * text.len();
-    parse(&wide[..end])
+pub fn parsed(alloc: Global, text: &[u8]) -> Result<Result<Rules, Fault>, AllocError> {
+    let wide = widened(alloc, text)?;
+    Ok(parse(&wide))
 }
 
 // How many rules there are, or the fault.
-pub fn told(text: &[u8]) -> Result<usize, Fault> {
-    Ok(parsed(text)?.len())
+pub fn told(alloc: Global, text: &[u8]) -> Result<Result<usize, Fault>, AllocError> {
+    Ok(parsed(alloc, text)?.map(|rules| rules.len()))
 }
 
-fn repeat(rule: &[u8], text: &mut [u8]) {
-    for (byte, from) in text.iter_mut().zip(rule.iter().cycle()) {
-        *byte = *from;
+// The same of a text of as many equal rules, and a last word.
+pub fn repeated(
+    alloc: Global,
+    rule: &[u8],
+    times: usize,
+    last: u8,
+) -> Result<Result<usize, Fault>, AllocError> {
+    let mut text = Vec::new(alloc);
+    for _ in 0..times {
+        text.extend_from_slice(rule)?;
     }
-}
-
-// A text of as many equal rules, and a last word.
-pub fn repeated(rule: &[u8], times: usize, last: u8) -> Result<usize, Fault> {
-    let mut text = [0u8; 1024];
-    let end = rule.len().saturating_mul(times);
-    if end >= 1024 {
-        return Err(Fault::at(Cause::TextTooLong, 0));
-    }
-    repeat(rule, &mut text);
-    text[end] = last;
-    told(&text[..end + 1])
+    text.push(last)?;
+    told(alloc, &text)
 }
