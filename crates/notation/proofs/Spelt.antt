@@ -2,21 +2,12 @@ use Rattle.std.specs.Int.{w16, to_be_bytes}
 use Rattle.std.proofs.Common.{◌≡◌, ℕ, ◌+◌, ◌*◌, ◌/◌, ◌%◌, ◌<◌, cond, List, [], ◌∷◌, ◌++◌, length, get_or, take, is_ok, Ok, Err, Result, sym, refl, ap, ◌∙◌, append_assoc, arith}
 use Rattle.std.proofs.lemmas.List.{take_more, append-nil}
 use Rattle.units.specs.Units.{units, unit_bytes}
+use Rattle.units.proofs.Texts.{length-unit_bytes, units_again}
 use Rattle.notation.specs.Letters.{utf16, spelling}
 
 pub unit_bytes-append : (us vs : List ℕ) → unit_bytes (us ++ vs) ≡ unit_bytes us ++ unit_bytes vs
 unit_bytes-append [] vs = refl
 unit_bytes-append (u ∷ us) vs = ap (λ t. u / 256 ∷ u % 256 ∷ t) (unit_bytes-append us vs)
-
-pub length-unit_bytes : (us : List ℕ) → length (unit_bytes us) ≡ 2 * length us
-length-unit_bytes [] = refl
-length-unit_bytes (u ∷ us) = let r = length-unit_bytes us in omega arith
-
-units_again : (us : List ℕ) → units (unit_bytes us) ≡ us
-units_again [] = refl
-units_again (u ∷ us) =
-    let e : u / 256 * 256 + u % 256 ≡ u = omega arith in
-    ap (λ v. v ∷ units (unit_bytes us)) e ∙ ap (λ t. u ∷ t) (units_again us)
 
 -- the bytes of some units are those of their own
 pub whole_of : (bs us : List ℕ) → bs ≡ unit_bytes us → bs ≡ unit_bytes (units bs)

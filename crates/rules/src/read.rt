@@ -10,7 +10,7 @@ use super::sink::Sink;
 use checks::rule_fault;
 use cursor::{Cursor, Stop};
 use faults::Fault;
-use parser::{begins_rule, rule};
+use parser::{MAX_RULES, begins_rule, rule};
 
 // How many rules there are, unless a fault of them is known.
 fn told(fault: Option<Fault>, rules: u16) -> Result<u16, Fault>
@@ -29,7 +29,7 @@ impl<'a> Sink<'a> {
     {
         let mut fault = None;
         // The count of the loop is what is answered: how many rules were read.
-        for i in 0..32u16 {
+        for i in 0..MAX_RULES as u16 {
             if !begins_rule(cursor) {
                 return Ok(told(fault, i));
             }
@@ -40,7 +40,7 @@ impl<'a> Sink<'a> {
         if begins_rule(cursor) {
             Err(Stop::Past)
         } else {
-            Ok(told(fault, 32))
+            Ok(told(fault, MAX_RULES as u16))
         }
     }
 

@@ -81,12 +81,16 @@ pub fn run_of(text: &[u8], from: usize, len: u16) -> &[u8]
     &text[2 * from..2 * to]
 }
 
-fn is_ill(before: u16, u: u16, after: u16) -> bool
-    ensures { result ≡ ill before u after }
+// The unit at `next` is read where the unit before it opens a pair, and nowhere else.
+fn is_ill(before: u16, u: u16, text: &[u8], next: usize) -> bool
+    ensures { result ≡ ill before u (slice_index (units text.now) next) }
 {
     match u {
         0 => true,
-        0xD800..=0xDBFF => after < 0xDC00 || after > 0xDFFF,
+        0xD800..=0xDBFF => {
+            let after = unit_or_zero(text, next);
+            after < 0xDC00 || after > 0xDFFF
+        }
         0xDC00..=0xDFFF => before < 0xD800 || before > 0xDBFF,
         _ => false,
     }
@@ -99,7 +103,7 @@ pub fn first_ill_formed(text: &[u8]) -> Option<usize>
 {
     let mut before = 0;
     for (i, u) in Units::of(text).enumerate() {
-        if is_ill(before, u, unit_or_zero(text, i + 1)) {
+        if is_ill(before, u, text, i + 1) {
             return Some(i);
         }
         before = u;

@@ -19,13 +19,13 @@ loop-i-preserved c =
     let us = units c.args.text.now in
     let h = c.in-Some.ensures.steps in
     let inv = c.loop-i.invariant in
-    let after = c.unit_or_zero.ensures ∙ ap (λ k. get_or us (k + 1) 0) h.1 in
-    let goes = ill_goes us _ _ c.loop-i.i-iterator.count c.loop-i.before c.in-Some.u c.unit_or_zero.result h.0 inv.3 after (sym c.if-is_ill.ensures) in
+    let after = ap (λ k. get_or us (k + 1) 0) h.1 in
+    let goes = ill_goes us _ _ c.loop-i.i-iterator.count c.loop-i.before c.in-Some.u (get_or us (c.in-Some.i + 1) 0) h.0 inv.3 after (sym c.if-is_ill.ensures) in
     let b : c.next.new.self.count + length (units c.next.new.self.iter.rest.now) < 2 ^ 64 = omega (arith, h.2, inv.2, ap length h.0) in (
       (tt, tt, inl b),
       tt,
       b,
-      left_is us _ _ c.loop-i.i-iterator.count c.loop-i.before c.in-Some.u c.unit_or_zero.result h.0 inv.3 after ∙ ap (λ k. drop k us) (sym h.2),
+      left_is us _ _ c.loop-i.i-iterator.count c.loop-i.before c.in-Some.u (get_or us (c.in-Some.i + 1) 0) h.0 inv.3 after ∙ ap (λ k. drop k us) (sym h.2),
       ap (λ k. first_ill c.in-Some.u k (units c.next.new.self.iter.rest.now)) h.2 ∙ goes ∙ inv.4,
     )
 
@@ -34,8 +34,8 @@ returns-then-is_ill c =
     let us = units c.args.text.now in
     let h = c.in-Some.ensures.steps in
     let inv = c.loop-i.invariant in
-    let after = c.unit_or_zero.ensures ∙ ap (λ k. get_or us (k + 1) 0) h.1 in
-    let stops = ill_stops us _ _ c.loop-i.i-iterator.count c.loop-i.before c.in-Some.u c.unit_or_zero.result h.0 inv.3 after (sym c.if-is_ill.ensures) in
+    let after = ap (λ k. get_or us (k + 1) 0) h.1 in
+    let stops = ill_stops us _ _ c.loop-i.i-iterator.count c.loop-i.before c.in-Some.u (get_or us (c.in-Some.i + 1) 0) h.0 inv.3 after (sym c.if-is_ill.ensures) in
     let e = ap Some h.1 ∙ sym stops ∙ inv.4 in
     record { value = e; first = first_ill_found us (Some c.in-Some.i) e }
 
