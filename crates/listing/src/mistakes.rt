@@ -29,7 +29,7 @@ pub enum Stop {
     At(Mistake, usize),
 }
 
-// By hand, as the other: nobody is told a `Stop`, so it has no message as thiserror's derive asks for, and what the derive writes has no contract.
+// By hand, both: nobody is told a `Stop`, so it has no message as thiserror's derive asks for, and what the derive writes has no contract.
 impl From<AllocError> for Stop {
     ghost from_gives = { λ _ e. e ≡ Memory };
 

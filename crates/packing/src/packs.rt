@@ -21,6 +21,7 @@ pub enum PackError {
     Refused(Fault),
 }
 
+// These three are by hand: each says what it gives, and what a derive of thiserror's writes has no contract.
 impl From<AllocError> for PackError {
     ghost from_gives = { λ _ e. e ≡ Memory };
 
