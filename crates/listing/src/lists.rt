@@ -44,6 +44,10 @@ impl ClaimsList {
 
     // The claim of a line behind the others; an empty line and a remark add none.
     fn add_line(&mut self, heap: Global, line: &str) -> Result<(), Stop> {
+        // Told before its letters are counted: a list may be empty lines for the most part.
+        if line.is_empty() {
+            return Ok(());
+        }
         let letters: Vec<char> = line.chars().collect(heap)?;
         let mut line = Line::of(letters.as_slice());
         line.skip_blanks();

@@ -3,3 +3,4 @@ pub mod Each
 pub mod Reading
 pub mod Wholly
 pub mod Short
+pub mod Empty

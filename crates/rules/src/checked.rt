@@ -9,7 +9,7 @@ use parts::Part;
 pub mod load;
 
 // The text, its parts with blanks behind them, and the number of its rules.
-#[derive(Clone, Copy)]
+#[derive(Clone, Copy, PartialEq, Eq, Debug)]
 pub struct Rules<'a> {
     text: &'a [u8],
     parts: &'a [Part],

@@ -133,11 +133,12 @@ pub fn same(a: &[u8], b: &[u8]) -> bool
 }
 
 // These two say what their chains prove: each place of its own. That the lists are then alike is proved above them.
+// A chain reads to the first difference, so texts of other lengths are told apart before it.
 fn folds_alike(a: &[u8], b: &[u8]) -> bool
     ensures alike { IsTrue result → FoldAlike (units a.now) (units b.now) }
     ensures unlike { length (units a.now) ≡ length (units b.now) → FoldAlikeAt (units a.now) (units b.now) → IsTrue result }
 {
-    Units::of(a).map(fold).eq(Units::of(b).map(fold))
+    count(a) == count(b) && Units::of(a).map(fold).eq(Units::of(b).map(fold))
 }
 
 // Does the text spell the name, one byte to a unit, in any case?
@@ -151,7 +152,8 @@ fn folds_to(text: &[u8], name: &[u8]) -> bool
     ensures alike { IsTrue result → FoldAlike (units text.now) name.now }
     ensures unlike { length (units text.now) ≡ length name.now → FoldAlikeAt (units text.now) name.now → IsTrue result }
 {
-    Units::of(text)
-        .map(fold)
-        .eq(name.iter().copied().map(|b| fold(u16::from(b))))
+    count(text) == name.len()
+        && Units::of(text)
+            .map(fold)
+            .eq(name.iter().copied().map(|b| fold(u16::from(b))))
 }
