@@ -1,14 +1,14 @@
 -- What a list of items shows, and the room that it takes.
 use denote.RattleType.{RattleType}
-use denote.Struct.Field.{unit-field}
 use Rattle.std.specs.Prelude.{ℕ, List, map}
-use Rattle.arrayvec.specs.ArrayVec.{ArrayVec}
-use Rattle.arrayvec.specs.Iter.{ArrayVecFitsInMemory}
+use Rattle.std.specs.Mem.{FitsInMemory}
+use Rattle.conditions.specs.Few.{Few}
+use Rattle.conditions.specs.contracts.few.Few.{the_row}
 
 -- each item, through the units of the rule text
-abbrev pub all_of : {A B : Type 0} → (List ℕ → A → B) → List ℕ → ArrayVec A → List B
+abbrev pub all_of : {A B : Type 0} → (List ℕ → A → B) → List ℕ → Few A → List B
 all_of f us xs = map (f us) xs.items
 
 -- a list of so many of these is no larger than memory
 abbrev pub ListFitsInMemory : RattleType → RattleType → Type 0
-ListFitsInMemory T N = ArrayVecFitsInMemory T N unit-field.row
+ListFitsInMemory T N = FitsInMemory (the_row T N)

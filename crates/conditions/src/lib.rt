@@ -2,9 +2,11 @@
 #![tactic(auto)]
 
 mod conds;
+mod few;
 mod many;
 mod selections;
 mod tree;
 
+pub use few::Few;
 pub use selections::conditions;
 pub use tree::{Cond, Conds, Oper, Selection, Selections};

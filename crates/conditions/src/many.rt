@@ -4,12 +4,12 @@ ghost use Rattle.grammar.specs.Readers.{Reads, many};
 ghost use Rattle.cursor.specs.Reading.{Parses};
 ghost use Rattle.conditions.specs.Many.{all_of, ListFitsInMemory};
 
-use arrayvec::ArrayVec;
+use super::few::Few;
 use cursor::{Cursor, Stop};
 use words::Terminal;
 
 // What stands in such a list.
-pub trait Item: Default + Drop {
+pub trait Item: Copy + Default {
     // What the grammar says that it is, the production that gives it, and how it is shown through the units of the text.
     ghost Said: { Type 0 };
 
@@ -26,11 +26,11 @@ pub fn many<T: Item, const N: usize>(
     cursor: &mut Cursor<'_>,
     between: Terminal,
     begins: &[Terminal],
-) -> Result<ArrayVec<T, N>, Stop>
+) -> Result<Few<T, N>, Stop>
     requires fits { ListFitsInMemory T.row N.row }
     ensures { Parses (many between begins.now T.reader N) (all_of T.shown) cursor.old result cursor.new }
 {
-    let mut all = ArrayVec::new();
+    let mut all = Few::new();
     for _ in 0..N {
         all.push(T::read(cursor)?);
         if !cursor.sees(&[between]) {

@@ -4,7 +4,7 @@ ghost use Rattle.std.specs.Prelude.{◌≡◌};
 ghost use Rattle.conditions.specs.declared.tree.Cond.TheVariants as Cond;
 ghost use Rattle.conditions.specs.declared.tree.Oper.TheVariants as Oper;
 
-use arrayvec::ArrayVec;
+use super::few::Few;
 use cursor::Piece;
 
 #[derive(Clone, Copy, PartialEq, Eq, Debug)]
@@ -33,13 +33,13 @@ impl<W: Default> Default for Cond<W> {
 }
 
 // At most four conditions.
-pub type Conds = ArrayVec<Cond<Piece>, 4>;
+pub type Conds = Few<Cond<Piece>, 4>;
 
-#[derive(Clone, Default, Drop)]
+#[derive(Clone, Copy, Default)]
 pub struct Selection {
     pub name: Option<Piece>,
     pub conds: Conds,
 }
 
 // At most four selections.
-pub type Selections = ArrayVec<Selection, 4>;
+pub type Selections = Few<Selection, 4>;

@@ -1,9 +1,8 @@
 // Rules as they are read, by places in the rule text.
 use actions::ActionRead;
-use arrayvec::ArrayVec;
-use conditions::Selections;
+use conditions::{Few, Selections};
 
-#[derive(Clone, Default, Drop)]
+#[derive(Clone, Copy, Default)]
 pub struct Rule {
     pub at: u16,
     pub selections: Selections,
@@ -13,4 +12,4 @@ pub struct Rule {
 // As many rules as a text may have.
 pub const MAX_RULES: usize = 32;
 
-pub type Rules = ArrayVec<Rule, MAX_RULES>;
+pub type Rules = Few<Rule, MAX_RULES>;

@@ -90,3 +90,27 @@ fn places_of_a_rule(rt: HostRuntime) -> Result<(), Fail> {
     assert_eq!(rt; places(rt.alloc(), b"C1:[]=> ISSUE(Claim=C1);")?, None);
     Ok(())
 }
+
+// Only a type that is copied by value will do.
+fn twice<T: Copy>(value: T) -> (T, T) {
+    (value, value)
+}
+
+#[test]
+fn what_is_read_is_copied(rt: HostRuntime) -> Result<(), Fail> {
+    let text = b"a:[type==\"b\"]=>issue(claim=a);";
+    let (mut rules, kept) = twice(parsed(rt.alloc(), text)??);
+    assert_eq!(rt; (rules.len(), kept.len()), (1, 1));
+    let (rule, same) = twice(*kept.first().ok_or("no rule")?);
+    rules.push(rule);
+    assert_eq!(rt; (rules.len(), kept.len()), (2, 1));
+    let (mut selections, others) = twice(same.selections);
+    assert_eq!(rt; (selections.len(), others.len()), (1, 1));
+    let (selection, again) = twice(*others.first().ok_or("no selection")?);
+    selections.push(selection);
+    assert_eq!(rt; (selections.len(), others.len()), (2, 1));
+    let (conds, more) = twice(again.conds);
+    assert_eq!(rt; (conds.len(), more.len()), (1, 1));
+    assert_eq!(rt; conds, selection.conds);
+    Ok(())
+}

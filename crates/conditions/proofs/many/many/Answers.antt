@@ -43,8 +43,8 @@ returns-then-sees g c =
     let e = over c.args.between c.args.begins.now g.T.Item.reader (all_of g.T.Item.shown (text_of c.args.cursor.now) c.loop.all) (rest c.loop.cursor) true c.if-sees.ensures in
     search rules
 
-pub returns : goal.returns
-returns g c =
+pub returns-else-sees : goal.returns-else-sees
+returns-else-sees g c =
     let z : g.row.N - c.loop.counter ≡ 0 = omega arith in
     let e = over c.args.between c.args.begins.now g.T.Item.reader (all_of g.T.Item.shown (text_of c.args.cursor.now) c.loop.all) (rest c.loop.cursor) false c.if-sees.ensures in
     search rules
