@@ -2,8 +2,8 @@
 use denote.RattleType.{RattleType}
 use Rattle.std.specs.Prelude.{ℕ, List, map}
 use Rattle.std.specs.Mem.{FitsInMemory}
-use Rattle.conditions.specs.Few.{Few}
-use Rattle.conditions.specs.contracts.few.Few.{the_row}
+use Rattle.list.specs.Few.{Few}
+use Rattle.list.specs.contracts.few.Few.{the_row}
 
 -- each item, through the units of the rule text
 abbrev pub all_of : {A B : Type 0} → (List ℕ → A → B) → List ℕ → Few A → List B

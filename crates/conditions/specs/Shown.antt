@@ -5,7 +5,7 @@ use Rattle.words.specs.Words.{Word}
 use Rattle.grammar.specs.Tree as T
 use Rattle.cursor.specs.Pieces.{word_of}
 use Rattle.cursor.specs.declared.pieces.Piece.{Piece}
-use Rattle.conditions.specs.Few.{Few}
+use Rattle.list.specs.Few.{Few}
 use Rattle.conditions.specs.declared.tree.Cond.{Cond}
 use Rattle.conditions.specs.declared.tree.Cond.TheVariants as cond
 use Rattle.conditions.specs.declared.tree.Oper.{Oper}

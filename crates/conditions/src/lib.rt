@@ -2,11 +2,9 @@
 #![tactic(auto)]
 
 mod conds;
-mod few;
 mod many;
 mod selections;
 mod tree;
 
-pub use few::Few;
 pub use selections::conditions;
 pub use tree::{Cond, Conds, Oper, Selection, Selections};

@@ -4,8 +4,8 @@ ghost use Rattle.grammar.specs.Readers.{Reads, many};
 ghost use Rattle.cursor.specs.Reading.{Parses};
 ghost use Rattle.conditions.specs.Many.{all_of, ListFitsInMemory};
 
-use super::few::Few;
 use cursor::{Cursor, Stop};
+use list::Few;
 use words::Terminal;
 
 // What stands in such a list.

@@ -4,8 +4,8 @@ ghost use Rattle.std.specs.Prelude.{◌≡◌};
 ghost use Rattle.conditions.specs.declared.tree.Cond.TheVariants as Cond;
 ghost use Rattle.conditions.specs.declared.tree.Oper.TheVariants as Oper;
 
-use super::few::Few;
 use cursor::Piece;
+use list::Few;
 
 #[derive(Clone, Copy, PartialEq, Eq, Debug)]
 pub enum Oper {

@@ -8,7 +8,7 @@ use Rattle.grammar.specs.Parse.{RuleSet}
 use Rattle.grammar.specs.Readers.{Got, got}
 use Rattle.grammar.specs.Tree as T
 use Rattle.grammar.specs.Whole.{rules, fault, whole, parse}
-use Rattle.conditions.specs.Few.{Few}
+use Rattle.list.specs.Few.{Few}
 use Rattle.parser.specs.Parsed.{parsed_of}
 use Rattle.cursor.specs.Reading.{Reading, stopped, fault_of, is_none}
 use Rattle.parser.specs.Shown.{rules_of}

@@ -2,7 +2,7 @@
 use Rattle.std.specs.Prelude.{ℕ, List, Ok, Err, Result}
 use Rattle.faults.specs.declared.Fault.{Fault}
 use Rattle.grammar.specs.Whole.{Parsed, rules, fault}
-use Rattle.conditions.specs.Few.{Few}
+use Rattle.list.specs.Few.{Few}
 use Rattle.parser.specs.Shown.{rules_of}
 use Rattle.parser.specs.declared.tree.Rule.{Rule}
 

@@ -2,7 +2,7 @@
 use Rattle.std.specs.Prelude.{ℕ, List, map}
 use Rattle.grammar.specs.Tree as T
 use Rattle.cursor.specs.declared.pieces.Piece.{Piece}
-use Rattle.conditions.specs.Few.{Few}
+use Rattle.list.specs.Few.{Few}
 use Rattle.conditions.specs.Shown.{selections_of}
 use Rattle.conditions.specs.declared.tree.Selection.{Selection}
 use Rattle.actions.specs.Shown.{action_of}

@@ -1,6 +1,7 @@
 // Rules as they are read, by places in the rule text.
 use actions::ActionRead;
-use conditions::{Few, Selections};
+use conditions::Selections;
+use list::Few;
 
 #[derive(Clone, Copy, Default)]
 pub struct Rule {

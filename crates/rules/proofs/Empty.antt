@@ -1,6 +1,6 @@
 -- The empty text: no rule, and no part.
 use Rattle.std.proofs.Common.{◌≡◌, ℕ, ◌-◌, true, cond, List, [], ◌++◌, length, replicate, sym, refl, ap, ◌∙◌, arith}
-use Rattle.std.proofs.lemmas.List.{take_all}
+use Rattle.std.proofs.lemmas.List.{take_all, length-replicate}
 use Rattle.std.proofs.lemmas.Bool.{le-leb}
 use Rattle.faults.specs.At.{fault_at}
 use Rattle.faults.specs.declared.Cause.TheVariants.{PartsTooShort}
@@ -26,3 +26,7 @@ pub empty_laid : (ps : List Part) → ps ≡ replicate (length ps) Blank → ps 
 empty_laid ps e =
     let d : length ps - 0 ≡ length ps = omega arith in
     e ∙ ap (λ k. replicate k Blank) (sym d) ∙ ap (λ l. l ++ replicate (length ps - 0) Blank) (sym (take_all (length ps) [] (omega arith))) ∙ ap (λ t. padded (length ps) (lay_rules t)) (sym empty_tree)
+
+-- so many blanks are as many as they are
+pub blanks_all : (n : ℕ) (ps : List Part) → ps ≡ replicate n Blank → ps ≡ replicate (length ps) Blank
+blanks_all n ps e = e ∙ ap (λ k. replicate k Blank) (sym (ap length e ∙ length-replicate n Blank))

@@ -1,7 +1,7 @@
 // A list of at most N items in the value itself: a count, and so many slots, of which the first hold the items.
 // It is the project's own and not the library's `ArrayVec`, since that can't be copied: what is read of a rule is a plain
 // value, and so are the lists in it.
-ghost use Rattle.std.specs.Prelude.{◌≡◌, ◌+◌, ◌<◌, ◌≤◌, [], ◌∷◌, ◌++◌, length};
+ghost use Rattle.std.specs.Prelude.{◌≡◌, ◌+◌, ◌<◌, ◌≤◌, [], ◌∷◌, ◌++◌, length, take};
 ghost use Rattle.std.specs.Cmp.{on_equiv, on_per};
 ghost use Rattle.std.specs.Cmp.Lexicographic.{pointwise, lists_per, lists_equiv};
 
@@ -19,7 +19,7 @@ pub struct Few<T, const N: usize> {
 impl<T, const N: usize> Model for Few<T, N> {
     ghost use Rattle.std.specs.Prelude.{◌≡◌, ◌≤◌, ◌++◌, length, take, drop};
     ghost use Rattle.std.proofs.Common.{sym, ap, subst};
-    ghost use Rattle.conditions.specs.Few.{Few as Items, few_code, slots_back};
+    ghost use Rattle.list.specs.Few.{Few as Items, few_code, slots_back};
 
     ghost Value = { Items T };
 
@@ -40,7 +40,7 @@ impl<T: Copy + Default, const N: usize> Few<T, N> {
         ensures { result.items ≡ [] }
     {
         Few {
-            slots: Default::default(),
+            slots: [T::default(); N],
             len: 0,
         }
     }
@@ -56,6 +56,13 @@ impl<T: Copy, const N: usize> Few<T, N> {
         let len = self.len;
         self.slots[len] = item;
         self.len = len + 1;
+    }
+
+    // The first n items stay, or all where there are fewer; a slot that is let go is not written.
+    pub fn truncate(&mut self, n: usize)
+        ensures { self.new.items ≡ take n self.old.items }
+    {
+        self.len = self.len.min(n);
     }
 }
 
