@@ -1,6 +1,7 @@
 -- The automaton that is computed from a tree stands for it.
-use Rattle.std.proofs.Common.{◌≡◌, ℕ, zero, suc, ◌+◌, ◌<◌, ◌≤◌, Bool, true, false, cond, List, [], ◌∷◌, length, take, get_or, Decides, sym, refl, ap, ◌∙◌, subst, inl, inr, add-zero, zero-add, arith}
+use Rattle.std.proofs.Common.{◌≡◌, ℕ, zero, suc, ◌+◌, ◌^◌, ◌<◌, ◌≤◌, Bool, true, false, cond, List, [], ◌∷◌, length, take, get_or, Decides, sym, refl, ap, ◌∙◌, subst, inl, inr, add-zero, zero-add, arith}
 use lib.Bits.{bit_or}
+use native.Mathlib.Nat.{div-add-mod'}
 use Rattle.automaton.specs.declared.Atom.{Atom}
 use Rattle.automaton.specs.Language.{Tree, Matches}
 use Rattle.automaton.specs.Places.{bit, Has, size, atoms_of, Link, links, Linked, atoms, follows, Stands}
@@ -37,8 +38,8 @@ length-table ls p (suc n) = ap suc (length-table ls (p + 1) n)
 
 follows_placed : (xs : List Atom) (fs : List ℕ) → follows (placed xs fs) ≡ fs
 follows_placed xs [] = refl
-follows_placed [] (f ∷ fs) = ap (λ z. f ∷ z) (follows_placed [] fs)
-follows_placed (x ∷ xs) (f ∷ fs) = ap (λ z. f ∷ z) (follows_placed xs fs)
+follows_placed [] (f ∷ fs) = λ i. div-add-mod' f (2 ^ 32) i ∷ follows_placed [] fs i
+follows_placed (x ∷ xs) (f ∷ fs) = λ i. div-add-mod' f (2 ^ 32) i ∷ follows_placed xs fs i
 
 atoms_placed : (xs : List Atom) (fs : List ℕ) → length xs ≤ length fs → take (length xs) (atoms (placed xs fs)) ≡ xs
 atoms_placed [] fs le = refl

@@ -6,11 +6,11 @@ use Rattle.std.proofs.Math.ListN.{get_or-map}
 use Rattle.automaton.specs.declared.Atom.TheVariants.{Plain}
 use Rattle.automaton.specs.declared.Place.{Place}
 use Rattle.automaton.specs.Language.{fits}
-use Rattle.automaton.specs.Places.{bit, atoms, follows}
+use Rattle.automaton.specs.Places.{bit, follow_of, atoms, follows}
 use Rattle.automaton.specs.Run.{masked, reached}
 
 abbrev pub blank : Place
-blank = record { atom = Plain 0; follow = 0 }
+blank = record { atom = Plain 0; low = 0; high = 0 }
 
 pub used_at : (ps us : List Place) (n i : ℕ) → us ≡ take n ps → i < length us → get_or us i blank ≡ get_or ps i blank
 used_at ps us n i e lt =
@@ -18,10 +18,10 @@ used_at ps us n i e lt =
     ap (λ z. get_or z i blank) e ∙ get_or-take n ps i blank below
 
 module _ (ps us : List Place) (n i : ℕ) (used : us ≡ take n ps) (lt : i < length us) where
-  pub reach_turn : (g s q r : ℕ) (b : Bool) → q ≡ reached (follows ps) g s i → b ≡ bit s i → r ≡ cond b (bit_or q (get_or us i blank).follow) q → r ≡ reached (follows ps) g s (i + 1)
+  pub reach_turn : (g s q r : ℕ) (b : Bool) → q ≡ reached (follows ps) g s i → b ≡ bit s i → r ≡ cond b (bit_or q (follow_of (get_or us i blank))) q → r ≡ reached (follows ps) g s (i + 1)
   reach_turn g s q r b inv test is =
       is
-      ∙ (λ j. cond (test j) (bit_or (inv j) ((ap (λ (z : Place). z.follow) (used_at ps us n i used lt) ∙ sym (get_or-map (λ (p : Place). p.follow) ps i blank)) j)) (inv j))
+      ∙ (λ j. cond (test j) (bit_or (inv j) ((ap follow_of (used_at ps us n i used lt) ∙ sym (get_or-map follow_of ps i blank)) j)) (inv j))
       ∙ ap (reached (follows ps) g s) (sym (add-one i))
 
   pub mask_turn : (u q r : ℕ) (b : Bool) → q ≡ masked (atoms ps) u i → b ≡ fits (get_or us i blank).atom u → r ≡ cond b (bit_or q (2 ^ i)) q → r ≡ masked (atoms ps) u (i + 1)

@@ -1,5 +1,5 @@
 -- The places of a tree's atoms, numbered from left to right: where a run begins and ends, and what may follow what.
-use Rattle.std.specs.Prelude.{◌≡◌, ℕ, ◌+◌, ◌/◌, ◌%◌, ◌^◌, ◌<◌, ◌≤◌, Bool, true, false, if◌then◌else◌, ◌&&◌, ◌||◌, ◌⊎◌, List, [], ◌∷◌, ◌++◌, map, take, ◌==◌, bit_or, slice_index}
+use Rattle.std.specs.Prelude.{◌≡◌, ℕ, ◌+◌, ◌*◌, ◌/◌, ◌%◌, ◌^◌, ◌<◌, ◌≤◌, Bool, true, false, if◌then◌else◌, ◌&&◌, ◌||◌, ◌⊎◌, List, [], ◌∷◌, ◌++◌, map, take, ◌==◌, bit_or, slice_index}
 use Rattle.automaton.specs.declared.Atom.{Atom}
 use Rattle.automaton.specs.declared.Automaton.{Automaton}
 use Rattle.automaton.specs.declared.Place.{Place}
@@ -79,12 +79,16 @@ abbrev pub Linked : List Link → ℕ → ℕ → Type 0
 Linked [] p q = ⊥
 Linked (l ∷ ls) p q = (Has l.0 p × Has l.1 q) ⊎ Linked ls p q
 
+-- the set of the places that may come next, which is held in two halves of 32 bits
+abbrev pub follow_of : Place → ℕ
+follow_of p = p.high * 2 ^ 32 + p.low
+
 -- what each place takes, and for each which may come next
 abbrev pub atoms : List Place → List Atom
 atoms ps = map (λ p. p.atom) ps
 
 abbrev pub follows : List Place → List ℕ
-follows ps = map (λ p. p.follow) ps
+follows ps = map follow_of ps
 
 -- the automaton is that of the tree t with these anchors
 pub record Stands (a : Automaton) (head tail : Bool) (t : Tree) : Type 0 where

@@ -6,7 +6,7 @@
 ghost use Rattle.std.specs.Prelude.{◌≡◌, Bool, not, take, Decides};
 ghost use Rattle.units.specs.Units.{units};
 ghost use Rattle.automaton.specs.Language.{fits, Tree, Matches};
-ghost use Rattle.automaton.specs.Places.{bit, Stands};
+ghost use Rattle.automaton.specs.Places.{bit, follow_of, Stands};
 ghost use Rattle.automaton.specs.Run.{room, ends, stepped};
 
 use units::{Units, fold};
@@ -18,12 +18,16 @@ pub enum Atom {
     Any,
 }
 
-// A place: what stands there, and the set of the places that may come next.
+// A place: what stands there, and the set of the places that may come next. The set is held in two halves: a u64 would be
+// aligned to 8 bytes, a place would take 16 in place of 12, and a pattern, which is copied and kept, a third more.
 #[derive(Clone, Copy)]
 pub struct Place {
     pub atom: Atom,
-    pub follow: u64,
+    low: u32,
+    high: u32,
 }
+
+const _: () = prove!(std::mem::size_of::<Place>() == 12);
 
 // The places are numbered from 0; the first `count` are in use. Beside the count they stand in an array, not in an
 // ArrayVec, which cannot be copied: `pattern::Pattern`, which is public and holds an automaton, is `Copy`, and a type
@@ -58,6 +62,26 @@ impl Atom {
     }
 }
 
+impl Place {
+    pub fn new(atom: Atom, follow: u64) -> Place
+        ensures takes { result.atom ≡ atom }
+        ensures leads { follow_of result ≡ follow }
+    {
+        Place {
+            atom,
+            low: (follow % 0x1_0000_0000) as u32,
+            high: (follow >> 32) as u32,
+        }
+    }
+
+    // The places that may come next.
+    pub fn follow(self) -> u64
+        ensures { result ≡ follow_of self }
+    {
+        (u64::from(self.high) << 32) + u64::from(self.low)
+    }
+}
+
 // Is the place p in the set? A set is a plain number, whose operators are those of sets: a type of its own would only
 // repeat them.
 pub fn has(set: u64, p: usize) -> bool
@@ -83,7 +107,7 @@ impl Automaton {
         let mut mask = 0;
         for (i, place) in self.used().iter().enumerate() {
             if has(r.set, i) {
-                next |= place.follow;
+                next |= place.follow();
             }
             if place.atom.takes(u) {
                 mask |= 1u64 << i;

@@ -5,9 +5,8 @@ use lib.Bits.{bit_or}
 use Rattle.std.proofs.lemmas.List.{get_or-set_same, get_or-set_other, map-set}
 use Rattle.std.proofs.Math.ListN.{get_or-map}
 use Rattle.std.proofs.lemmas.Bool.{cases_order}
-use Rattle.automaton.specs.declared.Atom.{Atom}
 use Rattle.automaton.specs.declared.Place.{Place}
-use Rattle.automaton.specs.Places.{bit, Has, Link, follows}
+use Rattle.automaton.specs.Places.{bit, Has, Link, follow_of, follows}
 use Rattle.automaton.proofs.Used.{blank}
 use Rattle.automaton.proofs.Holds.{split_if, has_left, has_right, linked_left, linked_right, linked_split}
 use Rattle.pattern.specs.Parts.{Grown}
@@ -72,7 +71,8 @@ grown_one from to before after n le s p q lt =
     )
 
 -- a link added at one place
-pub follows_set : (ps : List Place) (p to : ℕ) (a : Atom) → follows (set ps p (record { atom = a; follow = bit_or (get_or ps p blank).follow to })) ≡ set (follows ps) p (bit_or (get_or (follows ps) p 0) to)
-follows_set ps p to a =
-    map-set (λ (q : Place). q.follow) ps p _
-    ∙ ap (λ z. set (follows ps) p (bit_or z to)) (sym (get_or-map (λ (q : Place). q.follow) ps p blank))
+pub follows_set : (ps : List Place) (p to : ℕ) (a : Place) → follow_of a ≡ bit_or (follow_of (get_or ps p blank)) to → follows (set ps p a) ≡ set (follows ps) p (bit_or (get_or (follows ps) p 0) to)
+follows_set ps p to a e =
+    map-set follow_of ps p a
+    ∙ ap (set (follows ps) p) e
+    ∙ ap (λ z. set (follows ps) p (bit_or z to)) (sym (get_or-map follow_of ps p blank))

@@ -28,12 +28,6 @@ pub struct Pattern {
     automaton: Automaton,
 }
 
-// A place that no atom has taken yet.
-const UNUSED: Place = Place {
-    atom: Atom::Any,
-    follow: 0,
-};
-
 // What stands behind the opening anchor, where the pattern has one.
 fn behind_head(pattern: &[u8]) -> Option<&[u8]>
     ensures head { is_some result ≡ begins 94 (units pattern.now) }
@@ -56,11 +50,12 @@ pub fn read(pattern: &[u8]) -> Result<Pattern, Cause>
     if !scan::well_formed(body) {
         return Err(Cause::MalformedPattern);
     }
+    // what no atom has taken yet is a dot with nothing behind it
     let mut reader = Reader {
         pattern: body,
         at: 0,
         count: 0,
-        places: [UNUSED; 60],
+        places: [Place::new(Atom::Any, 0); 60],
     };
     let whole = reader.choice(8).ok_or(Cause::PatternOverLimit)?;
     Ok(Pattern {

@@ -41,7 +41,7 @@ fn link(places: &mut [Place; 60], from: u64, to: u64)
 {
     for (p, place) in places.iter_mut().enumerate() {
         if has(from, p) {
-            place.follow |= to;
+            *place = Place::new(place.atom, place.follow() | to);
         }
     }
 }

@@ -78,4 +78,9 @@ mod tests {
         assert!(rt; !pattern::matches(&p, unit_bytes(heap, "abb")?.as_slice()));
         Ok(())
     }
+
+    #[test]
+    fn a_pattern_is_small(rt: HostRuntime) {
+        assert_eq!(rt; std::mem::size_of::<pattern::Pattern>(), 752);
+    }
 }

@@ -38,5 +38,5 @@ returns c =
     let read = rw c.in_ok-whole.ensures.ok_part at c.choice.ensures in
     let e =
     accepted us c.is_some.result _ is st _ c.choice.new.self c.in_ok-whole.whole
-    (λ k lt. get_or-replicate 60 k 0 0 lt) read.read c.count.result c.count.ensures c.if-not-well_formed.ensures in
+    (λ k lt. get_or-replicate 60 k _ 0 lt ∙ c.new.ensures.leads) read.read c.count.result c.count.ensures c.if-not-well_formed.ensures in
     record { exact = e; value = told_cause us (Ok _) e }

@@ -2,6 +2,7 @@ use Rattle.std.proofs.Common.{◌≡◌, ℕ, ◌^◌, ◌<◌, length, cond, ge
 use lib.Bits.{bit_or}
 use Rattle.std.proofs.lemmas.Nat.{one_shl}
 use Rattle.std.proofs.lemmas.List.{length-take}
+use Rattle.automaton.specs.Places.{follow_of}
 use Rattle.automaton.specs.Run.{room}
 use Rattle.automaton.proofs.Used.{blank, reach_turn, mask_turn}
 use Rattle.automaton.proofs.Automaton.step.Goals as goal
@@ -15,10 +16,10 @@ loop-i-preserved c =
     let n : ℕ = c.loop-i.next in
     let m : ℕ = c.loop-i.mask in
     let below : i < 64 = omega (arith, ap length c.used-place-items.ensures, length-take (room c.args.self.now) ps) in
-    let onto : c.if-has.next ≡ cond c.has.result (bit_or n (get_or us i blank).follow) n =
+    let onto : c.if-has.next ≡ cond c.has.result (bit_or n (follow_of (get_or us i blank))) n =
     elim c.if-has.branch [
-      | then-has w ↦ w.next-is ∙ ap (λ b. cond b (bit_or n (get_or us i blank).follow) n) (sym w.if-has.true)
-      | else-has w ↦ w.next-is ∙ ap (λ b. cond b (bit_or n (get_or us i blank).follow) n) (sym w.if-has.false)
+      | then-has w ↦ w.next-is ∙ ap (bit_or n) w.follow-next.ensures ∙ ap (λ b. cond b (bit_or n (follow_of (get_or us i blank))) n) (sym w.if-has.true)
+      | else-has w ↦ w.next-is ∙ ap (λ b. cond b (bit_or n (follow_of (get_or us i blank))) n) (sym w.if-has.false)
     ] in
     let taken : c.if-takes.mask ≡ cond c.takes.result (bit_or m (2 ^ i)) m =
     elim c.if-takes.branch [

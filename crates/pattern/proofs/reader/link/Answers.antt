@@ -1,7 +1,8 @@
-use Rattle.std.proofs.Common.{◌≡◌, ◌+◌, ◌<◌, length, sym, refl, ◌∙◌, subst, arith}
+use Rattle.std.proofs.Common.{◌≡◌, ◌+◌, ◌<◌, length, sym, ap, ◌∙◌, subst, arith}
+use lib.Bits.{bit_or}
 use Rattle.std.proofs.lemmas.List.{length-map, length-set, set-get_or}
 use Rattle.std.proofs.Math.Seq.{map-set_same}
-use Rattle.automaton.specs.Places.{atoms, follows}
+use Rattle.automaton.specs.Places.{follow_of, atoms, follows}
 use Rattle.automaton.specs.declared.Place.{Place}
 use Rattle.automaton.proofs.Used.{blank}
 use Rattle.pattern.proofs.Grow.{Spread, spread_keep, spread_add, follows_set, grown_one}
@@ -19,12 +20,12 @@ loop-p-preserved c =
     let old = c.args.places.now in
     let now = c.loop-p.places in
     let p = c.loop-p.p in
-    let lt : p < length (follows now) = omega (arith, length-map now (λ (q : Place). q.follow)) in
+    let lt : p < length (follows now) = omega (arith, length-map now follow_of) in
     elim c.if-has.branch [
       | then-has w ↦ subst (λ z. (length z ≡ 60) × (atoms z ≡ atoms old) × Spread f to (follows old) (follows z) (p + 1)) (sym w.places-is) (
         length-set now p _ ∙ c.loop-p.invariant.0,
-        map-set_same (λ (q : Place). q.atom) now p _ blank refl ∙ c.loop-p.invariant.1,
-        subst (λ z. Spread f to (follows old) z (p + 1)) (sym (follows_set now p to _)) (spread_add f to (follows old) (follows now) p c.loop-p.invariant.2 (sym w.if-has.ensures) lt),
+        map-set_same (λ (q : Place). q.atom) now p _ blank w.new.ensures.takes ∙ c.loop-p.invariant.1,
+        subst (λ z. Spread f to (follows old) z (p + 1)) (sym (follows_set now p to _ (w.new.ensures.leads ∙ ap (λ z. bit_or z to) w.follow.ensures))) (spread_add f to (follows old) (follows now) p c.loop-p.invariant.2 (sym w.if-has.ensures) lt),
       )
       | else-has w ↦ subst (λ z. (length z ≡ 60) × (atoms z ≡ atoms old) × Spread f to (follows old) (follows z) (p + 1)) (sym (w.places-is ∙ set-get_or now p blank))
           (c.loop-p.invariant.0, c.loop-p.invariant.1, spread_keep f to (follows old) (follows now) p c.loop-p.invariant.2 (sym w.if-has.ensures))
