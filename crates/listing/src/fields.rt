@@ -83,7 +83,9 @@ impl<'a> Line<'a> {
         run
     }
 
-    pub fn skip_blanks(&mut self) {
+    pub fn skip_blanks(&mut self)
+        ensures { length self.new.rest.now ≤ length self.old.rest.now }
+    {
         // A function of another crate has no proof here as a value: hence the closure.
         self.run(|c| is_blank(c));
     }

@@ -44,10 +44,6 @@ impl ClaimsList {
 
     // The claim of a line behind the others; an empty line and a remark add none.
     fn add_line(&mut self, heap: Global, line: &str) -> Result<(), Stop> {
-        // Told before its letters are counted: a list may be empty lines for the most part.
-        if line.is_empty() {
-            return Ok(());
-        }
         let letters: Vec<char> = line.chars().collect(heap)?;
         let mut line = Line::of(letters.as_slice());
         line.skip_blanks();
@@ -122,7 +118,10 @@ fn claim_of(heap: Global, text: &mut UnitText, line: &mut Line) -> Result<Claim,
 fn read_text(heap: Global, list: &str) -> Result<ClaimsList, ListError> {
     let mut all = ClaimsList::new(heap);
     for (i, line) in list.lines().enumerate() {
-        all.add_line(heap, line).map_err(|stop| stop.on_line(i))?;
+        // A list may be empty lines for the most part, and they add nothing.
+        if !line.is_empty() {
+            all.add_line(heap, line).map_err(|stop| stop.on_line(i))?;
+        }
     }
     Ok(all)
 }

@@ -1,5 +1,5 @@
-use Rattle.std.proofs.Common.{◌≡◌, ℕ, zero, suc, ◌+◌, ◌-◌, ◌*◌, ◌/◌, ◌%◌, ◌<◌, ◌≤◌, min, Bool, true, eqb, List, [], ◌∷◌, map, length, get_or, take, drop, sym, refl, ap, ◌∙◌, inl, inr, arith, eq-eqb}
-use Rattle.std.proofs.lemmas.List.{drop_all, take_all, length-drop, length-map, get_or-map}
+use Rattle.std.proofs.Common.{◌≡◌, ℕ, zero, suc, ◌+◌, ◌-◌, ◌*◌, ◌/◌, ◌%◌, ◌<◌, ◌≤◌, min, Bool, true, false, ◌&&◌, eqb, List, [], ◌∷◌, map, length, get_or, take, drop, sym, refl, ap, ◌∙◌, inl, inr, arith, eq-eqb, ne_eqb}
+use Rattle.std.proofs.lemmas.List.{drop_more, drop_all, take_all, length-drop, length-map, get_or-map}
 use Rattle.std.proofs.lemmas.Bool.Decides.{same_from_decides}
 use Rattle.std.proofs.lemmas.Grind.{same_number_lists}
 use Rattle.std.specs.Bool.{Decides}
@@ -23,6 +23,28 @@ get_or-units (x ∷ y ∷ bs) (suc i) h =
     let e : get_or (x ∷ y ∷ bs) (2 * suc i) 0 ≡ get_or bs (2 * i) 0 = ap (λ n. get_or (x ∷ y ∷ bs) n 0) a in
     let f : get_or (x ∷ y ∷ bs) (2 * suc i + 1) 0 ≡ get_or bs (2 * i + 1) 0 = ap (λ n. get_or (x ∷ y ∷ bs) n 0) b in
     get_or-units bs i (omega arith) ∙ ap (λ n. n * 256 + get_or bs (2 * i + 1) 0) (sym e) ∙ ap (λ n. get_or (x ∷ y ∷ bs) (2 * suc i) 0 * 256 + n) (sym f)
+
+pub same_lengths : (xs ys : List ℕ) → (length xs ≡ length ys → ⊥) → same_units xs ys ≡ false
+same_lengths [] [] h = absurd (h refl)
+same_lengths [] (y ∷ ys) h = refl
+same_lengths (x ∷ xs) [] h = refl
+same_lengths (x ∷ xs) (y ∷ ys) h =
+    let r : same_units xs ys ≡ false = same_lengths xs ys (λ e. h (ap suc e)) in
+    elim (eqb (fold_unit x) (fold_unit y)) as (λ v. (v && same_units xs ys) ≡ false) [ true ↦ r | false ↦ refl ]
+
+pub same_more : (xs ys : List ℕ) (i : ℕ) → i < length xs → i < length ys
+    → same_units (drop i xs) (drop i ys) ≡ (eqb (fold_unit (get_or xs i 0)) (fold_unit (get_or ys i 0)) && same_units (drop (i + 1) xs) (drop (i + 1) ys))
+same_more xs ys i h k = rw (drop_more xs i 0 h, drop_more ys i 0 k)
+
+module _ (xs ys : List ℕ) (i u v : ℕ) (h : i < length xs) (k : i < length ys) (a : u ≡ fold_unit (get_or xs i 0)) (b : v ≡ fold_unit (get_or ys i 0)) where
+  pub same_step : same_units (drop i xs) (drop i ys) ≡ (eqb u v && same_units (drop (i + 1) xs) (drop (i + 1) ys))
+  same_step = same_more xs ys i h k ∙ ap (λ w. eqb w (fold_unit (get_or ys i 0)) && same_units (drop (i + 1) xs) (drop (i + 1) ys)) (sym a) ∙ ap (λ w. eqb u w && same_units (drop (i + 1) xs) (drop (i + 1) ys)) (sym b)
+
+  pub same_stops : (u ≡ v → ⊥) → same_units (drop i xs) (drop i ys) ≡ false
+  same_stops ne = same_step ∙ ap (λ w. w && same_units (drop (i + 1) xs) (drop (i + 1) ys)) (ne_eqb u v ne)
+
+  pub same_goes : u ≡ v → same_units (drop (i + 1) xs) (drop (i + 1) ys) ≡ same_units (drop i xs) (drop i ys)
+  same_goes e = sym (same_step ∙ ap (λ w. w && same_units (drop (i + 1) xs) (drop (i + 1) ys)) (eq-eqb u v e))
 
 two_more : (k : ℕ) → 2 * suc k ≡ suc (suc (2 * k))
 two_more k = omega arith
@@ -120,3 +142,7 @@ module _ (xs ys : List ℕ) where
   same_from r ya no' =
       let d : Decides r (map fold_unit xs ≡ map fold_unit ys) = (λ t. let p = ya t in alike_folded p.0 p.1, λ e. no' (folded_length e) (folded_alike e)) in
       record { value = same_from_decides r (same_units xs ys) d (same_decided xs ys); folded = d }
+
+-- by the definition's own answer
+pub same_as : (xs ys : List ℕ) (r : Bool) → r ≡ same_units xs ys → Same xs ys r
+same_as xs ys r e = record { value = e; folded = (λ h. same_folded xs ys (sym e ∙ h), λ h. e ∙ folded_same xs ys h) }

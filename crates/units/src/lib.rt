@@ -132,7 +132,7 @@ pub fn same(a: &[u8], b: &[u8]) -> bool
     folds_alike(a, b)
 }
 
-// These two say what their chains prove: each place of its own. That the lists are then alike is proved above them.
+// What the chain proves: each place of its own. That the lists are then alike is proved above it.
 // A chain reads to the first difference, so texts of other lengths are told apart before it.
 fn folds_alike(a: &[u8], b: &[u8]) -> bool
     ensures alike { IsTrue result → FoldAlike (units a.now) (units b.now) }
@@ -145,15 +145,13 @@ fn folds_alike(a: &[u8], b: &[u8]) -> bool
 pub fn spells(text: &[u8], name: &[u8]) -> bool
     ensures { Same (units text.now) name.now result }
 {
-    folds_to(text, name)
-}
-
-fn folds_to(text: &[u8], name: &[u8]) -> bool
-    ensures alike { IsTrue result → FoldAlike (units text.now) name.now }
-    ensures unlike { length (units text.now) ≡ length name.now → FoldAlikeAt (units text.now) name.now → IsTrue result }
-{
-    count(text) == name.len()
-        && Units::of(text)
-            .map(fold)
-            .eq(name.iter().copied().map(|b| fold(u16::from(b))))
+    if count(text) != name.len() {
+        return false;
+    }
+    for (i, letter) in name.iter().enumerate() {
+        if fold(unit(text, i)) != fold(u16::from(*letter)) {
+            return false;
+        }
+    }
+    true
 }
