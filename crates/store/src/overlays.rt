@@ -4,9 +4,9 @@ ghost use Rattle.store.specs.Owned.{owned};
 ghost use Rattle.store.specs.Overlays.{laid_over, floor_over, capacity_over};
 
 use super::stores::{MOST, Store};
+use arrayvec::ArrayVec;
 use claims::{Claim, Source};
 use faults::{Cause, Fault};
-use list::Few;
 
 // The most claims that an overlay puts behind those of its source.
 const OWN: usize = 128;
@@ -14,7 +14,7 @@ const OWN: usize = 128;
 #[derive(Drop)]
 pub struct Overlay<S: Source> {
     base: S,
-    own: Few<Claim, OWN>,
+    own: ArrayVec<Claim, OWN>,
     ghost few: { length (owned own) ≤ 128 },
 }
 
@@ -27,7 +27,7 @@ impl<S: Source> Overlay<S> {
     {
         Overlay {
             base,
-            own: Few::new(),
+            own: ArrayVec::new(),
         }
     }
 }
